@@ -1,0 +1,4 @@
+pub mod Number
+pub mod Sequence
+pub mod Signed
+pub mod Splice

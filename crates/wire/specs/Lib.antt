@@ -1,0 +1,5 @@
+pub mod Number
+pub mod Sequence
+pub mod Signed
+pub mod Splice
+pub mod Status

@@ -1,0 +1,22 @@
+-- Numbers in bytes, big-endian, over the number of bytes (01: "All numbers on the wire are big-endian"; "Reading of two- and four-byte
+-- numbers is one shared fact over the width"). Assumes nothing.
+use Prim.Native.Nat.{ℕ, zero, suc, _+_, _*_, _/_, _%_}
+use mathlib.Core.List.{List, [], _∷_, _++_}
+use mathlib.Core.Bool.{cond}
+use lib.ListN.{length, getD}
+use lib.Dec.{leb}
+use Rattle.wire.specs.Splice.{splice}
+
+-- the number in the n bytes from `at`, the most significant first; a byte past the end counts as 0
+unfoldable pub number : ℕ → List ℕ → ℕ → ℕ
+number zero s at = 0
+number (suc n) s at = 256 * number n s at + getD s (at + n) 0
+
+-- v in n bytes, the most significant first; what n bytes can't hold of it is left out
+unfoldable pub bytes : ℕ → ℕ → List ℕ
+bytes zero v = []
+bytes (suc n) v = bytes n (v / 256) ++ (v % 256 ∷ [])
+
+-- xs after v was written in the n bytes from `at`; where they don't fit, xs as it was
+unfoldable pub written : ℕ → ℕ → ℕ → List ℕ → List ℕ
+written n v at xs = cond (leb (at + n) (length xs)) (splice at (bytes n v) xs) xs
