@@ -1,3 +1,4 @@
+pub mod Examples
 pub mod Number
 pub mod Sequence
 pub mod Signed

@@ -1,9 +1,10 @@
 -- Numbers in bytes, big-endian, over the number of bytes (01: "All numbers on the wire are big-endian"; "Reading of two- and four-byte
 -- numbers is one shared fact over the width"). Assumes nothing.
-use Prim.Native.Nat.{ℕ, zero, suc, _+_, _*_, _/_, _%_}
+use Prim.Native.Nat.{ℕ, zero, suc, _+_, _*_, _/_, _%_, _^_, _≤_, _<_}
+use mathlib.Core.Path.{_≡_}
 use mathlib.Core.List.{List, [], _∷_, _++_}
 use mathlib.Core.Bool.{cond}
-use lib.ListN.{length, getD}
+use lib.ListN.{length, getD, take, drop}
 use lib.Dec.{leb}
 use Rattle.wire.specs.Splice.{splice}
 
@@ -20,3 +21,13 @@ bytes (suc n) v = bytes n (v / 256) ++ (v % 256 ∷ [])
 -- xs after v was written in the n bytes from `at`; where they don't fit, xs as it was
 unfoldable pub written : ℕ → ℕ → ℕ → List ℕ → List ℕ
 written n v at xs = cond (leb (at + n) (length xs)) (splice at (bytes n v) xs) xs
+
+-- The laws that tie reading and writing, for any number of bytes. Their proofs stand in proofs/Laws/Number.antt.
+
+-- what is written reads back
+unfoldable pub ReadsBack : Type 0
+ReadsBack = (n v at : ℕ) (xs : List ℕ) → at + n ≤ length xs → v < 256 ^ n → number n (written n v at xs) at ≡ v
+
+-- what was read from bytes is written as those bytes
+unfoldable pub WritesBack : Type 0
+WritesBack = (n at : ℕ) (s : List ℕ) → at + n ≤ length s → ((k : ℕ) → getD s k 0 < 256) → bytes n (number n s at) ≡ take n (drop at s)

@@ -25,8 +25,8 @@ fn read(s: &[u8], at: usize, n: usize) -> u32
     let mut v: u32 = 0;
     let mut k = 0;
     while k < n {
-        let b = byte(s, at, k);
-        v = v * 256 + b as u32;
+        let b = byte(s, at, k) as u32;
+        v = 256 * v + b;
         k += 1;
     }
     v

@@ -7,7 +7,7 @@ use lib.ListN.{length, getD, take, drop, set, length-append, length-drop, List·
 use lib.Seq.{getD-at, getD-drop, take-suc}
 use borrow.Author.Tests.{le-leb}
 use Rattle.wire.specs.Splice.{splice}
-use Rattle.wire.specs.Number.{number, bytes, written}
+use Rattle.wire.specs.Number.{number, bytes, written, ReadsBack, WritesBack}
 use Rattle.wire.proofs.Laws.Splice.{splice-snoc, in-part}
 
 -- reading looks at the n bytes alone
@@ -38,26 +38,25 @@ number-bytes zero v h = omega arith
 number-bytes (suc n) v h =
     let e : length (bytes n (v / 256)) ≡ n = length-bytes n (v / 256) in
     let front : number n (bytes n (v / 256) ++ (v % 256 ∷ [])) 0 ≡ number n (bytes n (v / 256)) 0
-        = number-same n _ _ 0 0 (λ k l. List·getD-append (bytes n (v / 256)) _ 0 (0 + k) (omega arith)) in
+    = number-same n _ _ 0 0 (λ k l. List·getD-append (bytes n (v / 256)) _ 0 (0 + k) (omega arith)) in
     let last : getD (bytes n (v / 256) ++ (v % 256 ∷ [])) (0 + n) 0 ≡ v % 256 = getD-at (bytes n (v / 256)) (v % 256) [] 0 (0 + n) (omega arith) in
     rw (front, last, number-bytes n (v / 256) (omega arith)) (omega arith)
 
 -- what is written reads back
-pub reads-back : (n v at : ℕ) (xs : List ℕ) → at + n ≤ length xs → v < 256 ^ n → number n (written n v at xs) at ≡ v
-unfolding written
+pub reads-back : ReadsBack
+unfolding ReadsBack written
 reads-back n v at xs h small =
     let e : length (bytes n v) ≡ n = length-bytes n v in
     simp (le-leb (at + n) (length xs) h)
     (number-same n (splice at (bytes n v) xs) (bytes n v) at 0
     (λ k l.
-      let i : at + k - at ≡ 0 + k = omega arith in
-      in-part at (bytes n v) xs (omega arith) (at + k) (omega arith) (omega arith) ∙ ap (λ (m : ℕ). getD (bytes n v) m 0) i)
+    let i : at + k - at ≡ 0 + k = omega arith in
+    in-part at (bytes n v) xs (omega arith) (at + k) (omega arith) (omega arith) ∙ ap (λ (m : ℕ). getD (bytes n v) m 0) i)
     ∙ number-bytes n v small)
 
 -- what was read writes back, where every element is a byte
-pub writes-back
-    : (n at : ℕ) (s : List ℕ) → at + n ≤ length s → ((k : ℕ) → getD s k 0 < 256) → bytes n (number n s at) ≡ take n (drop at s)
-unfolding bytes number
+pub writes-back : WritesBack
+unfolding WritesBack bytes number
 writes-back zero at s h small = refl
 writes-back (suc n) at s h small =
     let b = getD s (at + n) 0 in

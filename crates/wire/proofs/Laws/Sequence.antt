@@ -36,9 +36,9 @@ near-newer last new e =
 
 far-apart : (last new : ℕ) → isNewer true last new ≡ false → 1 ≤ distance last new → 32767 < distance last new
 far-apart last new e l = elim (decLt 32767 (distance last new)) [
-      | yes f ↦ f
-      | no f ↦ let n = newer-near last new l (omega arith) in let bad : _≡_ {A = ℕ} 0 1 = cc in absurd (let no : ⊥ = omega arith in no)
-    ]
+  | yes f ↦ f
+  | no f ↦ let n = newer-near last new l (omega arith) in let bad : _≡_ {A = ℕ} 0 1 = cc in absurd (let no : ⊥ = omega arith in no)
+]
 
 not-newer : (last new : ℕ) → distance last new ≡ 0 ⊎ 32767 < distance last new → isNewer true last new ≡ false
 unfolding isNewer

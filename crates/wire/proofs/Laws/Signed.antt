@@ -1,4 +1,4 @@
--- Two's complement of n bytes is the machine's of the width w that has as many bits. Assumes nothing.
+-- Laws of two's complement: it goes back, and for n bytes it is the machine's of the width w that has as many bits. Assumes nothing.
 use Prim.Native.Nat.{ℕ, suc, _+_, _-_, _*_, _^_, _≤_, _<_}
 use mathlib.Core.Path.{_≡_, refl, sym, ap, _∙_}
 use mathlib.Core.Bool.{cond, true, false}
@@ -11,7 +11,15 @@ use lib.Dec.{T}
 use mir.Syntax.{Width}
 use mir.Val.{bits, hbits, toZ, ofZ, Fits, SFits}
 use mir.ValLaws.{toZ-ofZ, ofZ-fits}
-use Rattle.wire.specs.Signed.{signed, unsigned}
+use Rattle.wire.specs.Signed.{signed, unsigned, SignedBack}
+
+pub signed-back : SignedBack
+unfolding SignedBack signed unsigned
+signed-back n x h =
+    elim (decLt (2 * x) (256 ^ n)) [
+      | yes l ↦ simp (lt-ltb (2 * x) (256 ^ n) l)
+      | no l ↦ simp (le-ltb (2 * x) (256 ^ n) (omega arith), lt-ltb x (256 ^ n) h) (omega arith)
+    ]
 
 module _ (w : Width) (n : ℕ) (full : 256 ^ n ≡ 2 ^ bits w) (halves : 2 ^ bits w ≡ 2 * 2 ^ hbits w) (x : ℕ) (h : x < 256 ^ n) where
   pub signed-toZ : toZ w x ≡ signed n x
@@ -20,8 +28,8 @@ module _ (w : Width) (n : ℕ) (full : 256 ^ n ≡ 2 ^ bits w) (halves : 2 ^ bit
       elim (decLt x (2 ^ hbits w)) [
         | yes l ↦ simp (lt-ltb x (2 ^ hbits w) l, lt-ltb (2 * x) (256 ^ n) (omega arith))
         | no l ↦
-          simp (le-ltb x (2 ^ hbits w) (omega arith), le-ltb (2 * x) (256 ^ n) (omega arith), lt-ltb x (256 ^ n) h)
-          (ap negsuc (omega arith))
+            simp (le-ltb x (2 ^ hbits w) (omega arith), le-ltb (2 * x) (256 ^ n) (omega arith), lt-ltb x (256 ^ n) h)
+            (ap negsuc (omega arith))
       ]
 
   -- the upper half: half the range is taken off, and added again as a negative number

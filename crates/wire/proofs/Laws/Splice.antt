@@ -101,16 +101,16 @@ splice-next at ds es xs h =
           | yes a ↦ before-part (at + length ds) es _ (omega arith) i (omega arith) ∙ before-part at ds xs (omega arith) i a ∙ sym (before-part at (ds ++ es) xs (omega arith) i a)
           | no a ↦ elim (decLt i (at + length ds)) [
             | yes b ↦
-              before-part (at + length ds) es _ (omega arith) i b ∙ in-part at ds xs (omega arith) i (omega arith) b
-              ∙ sym (List·getD-append ds es 0 (i - at) (omega arith)) ∙ sym (in-part at (ds ++ es) xs (omega arith) i (omega arith) (omega arith))
+                before-part (at + length ds) es _ (omega arith) i b ∙ in-part at ds xs (omega arith) i (omega arith) b
+                ∙ sym (List·getD-append ds es 0 (i - at) (omega arith)) ∙ sym (in-part at (ds ++ es) xs (omega arith) i (omega arith) (omega arith))
             | no b ↦ elim (decLt i (at + length ds + length es)) [
               | yes d ↦
-                let k : i - at - length ds ≡ i - (at + length ds) = omega arith in
-                in-part (at + length ds) es _ (omega arith) i (omega arith) d
-                ∙ sym (in-part at (ds ++ es) xs (omega arith) i (omega arith) (omega arith) ∙ getD-past ds es (i - at) (omega arith) ∙ ap (λ (m : ℕ). getD es m 0) k)
+                  let k : i - at - length ds ≡ i - (at + length ds) = omega arith in
+                  in-part (at + length ds) es _ (omega arith) i (omega arith) d
+                  ∙ sym (in-part at (ds ++ es) xs (omega arith) i (omega arith) (omega arith) ∙ getD-past ds es (i - at) (omega arith) ∙ ap (λ (m : ℕ). getD es m 0) k)
               | no d ↦
-                after-part (at + length ds) es _ (omega arith) i (omega arith) ∙ after-part at ds xs (omega arith) i (omega arith)
-                ∙ sym (after-part at (ds ++ es) xs (omega arith) i (omega arith))
+                  after-part (at + length ds) es _ (omega arith) i (omega arith) ∙ after-part at ds xs (omega arith) i (omega arith)
+                  ∙ sym (after-part at (ds ++ es) xs (omega arith) i (omega arith))
             ]
           ]
         ]

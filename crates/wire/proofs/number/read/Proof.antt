@@ -1,32 +1,29 @@
-use Prim.Native.Nat.{ℕ, zero, suc, _≤_, _<_, _-_, _^_, _+_, _*_}
+-- After k bytes v is the number in them, and small enough for the next one. Assumes nothing.
+use Prim.Native.Nat.{ℕ, _≤_, _<_, _-_, _^_, _+_, _*_}
 use mathlib.Core.List.{List}
+use mathlib.Core.Path.{_≡_, refl, ap, _∙_, subst}
 use lib.ListN.{getD}
 use lib.Pow.{pow-add}
+use native.Mathlib.Nat.{pow-le-pow-right}
 use native.Mathlib.Numerals.{add-one}
-use denote.Ref.{now}
-use mathlib.Core.Path.{_≡_, sym, refl, ap, _∙_, subst}
-use borrow.Author.Needs.{needs}
 use native.Mathlib.Omega.{arith}
+use borrow.Author.Needs.{needs}
+use denote.Ref.{now}
 use Rattle.wire.specs.Number.{number}
 use Rattle.wire.proofs.number.read.Statement.{statement}
 use Rattle.wire.proofs.number.read.Tie as tie
-use Rattle.wire.proofs.number.read.Reads as reads
-use Rattle.wire.proofs.number.read.Lts as lts
-use Rattle.wire.proofs.number.byte.Reads as byte-reads
 
-room : (k v : ℕ) → k < 4 → v < 256 ^ k → v * 256 + 255 < 4294967296
-room zero v h p = omega arith
-room (suc zero) v h p = omega arith
-room (suc (suc zero)) v h p = omega arith
-room (suc (suc (suc zero))) v h p = omega arith
-room (suc (suc (suc (suc k)))) v h p = omega arith
-
-step : (s : List ℕ) (k at v b : ℕ) → v ≡ number k s at → b ≡ getD s (at + k) 0 → v * 256 + b ≡ number (k + 1) s at
+step : (s : List ℕ) (k at v b : ℕ) → v ≡ number k s at → b ≡ getD s (at + k) 0 → 256 * v + b ≡ number (k + 1) s at
 unfolding number
 step s k at v b p q = rw (add-one) (omega arith)
 
-more : (k v b : ℕ) → v < 256 ^ k → b < 256 → v * 256 + b < 256 ^ (k + 1)
+more : (k v b : ℕ) → v < 256 ^ k → b < 256 → 256 * v + b < 256 ^ (k + 1)
 more k v b p q = rw (pow-add 256 k 1) (omega arith)
+
+room : (k v b : ℕ) → k < 4 → v < 256 ^ k → b < 256 → 256 * v + b < 4294967296
+room k v b h p q =
+    let up : 256 ^ (k + 1) ≤ 256 ^ 4 = pow-le-pow-right (omega arith) {i = k + 1} {j = 4} (omega arith) in
+    omega (arith, more k v b p q)
 
 abbrev Inv-loop : tie.InvT-loop
 Inv-loop s at n v₀ k₀ v k = (k ≤ n) × (v ≡ number k s at) × (v < 256 ^ k)
@@ -34,47 +31,39 @@ Inv-loop s at n v₀ k₀ v k = (k ≤ n) × (v ≡ number k s at) × (v < 256 ^
 abbrev μ-loop : tie.MeasureT-loop
 μ-loop s at n v₀ k₀ v k = n - k
 
--- src/lib.rt:28:5
 loop-holds : tie.Need-loop-holds Inv-loop μ-loop
 unfolding number
 loop-holds c = (omega arith, refl, omega arith)
 
--- src/lib.rt:29:13
 byte-requires : tie.Need-byte-requires Inv-loop μ-loop
 byte-requires c κs = search needs
 
--- src/lib.rt:30:13
+cast-b : tie.Need-cast-b Inv-loop μ-loop
+cast-b c = search needs
+
 mul-v : tie.Need-mul-v Inv-loop μ-loop
-mul-v c = let l = c .before .before in omega (arith, room (l .loop .k) (l .loop .v) (omega arith) (l .loop .inv .2))
+mul-v c = let l = c .before .before .loop in omega (arith, room (l .k) (l .v) 0 (omega arith) (l .inv .2) (omega arith))
 
--- src/lib.rt:30:23
-cast-v : tie.Need-cast-v Inv-loop μ-loop
-cast-v c = search needs
-
--- src/lib.rt:30:13
 add-v : tie.Need-add-v Inv-loop μ-loop
-add-v c = let l = c .before .before in omega (arith, room (l .loop .k) (l .loop .v) (omega arith) (l .loop .inv .2))
+add-v c = let l = c .before .before .loop in omega (arith, room (l .k) (l .v) (c .byte .result) (omega arith) (l .inv .2) (omega arith))
 
--- src/lib.rt:31:9
 add-k : tie.Need-add-k Inv-loop μ-loop
 add-k c = omega arith
 
--- src/lib.rt:28:5
 loop-less : tie.Need-loop-less Inv-loop μ-loop
 loop-less c = omega arith
 
--- src/lib.rt:28:5
 loop-again : tie.Need-loop-again Inv-loop μ-loop
 loop-again c =
-    let l = c .before .before in
-    (omega arith, step _ (l .loop .k) _ _ _ (l .loop .inv .1) (c .byte .ensures), more (l .loop .k) (l .loop .v) _ (l .loop .inv .2) (omega arith))
+    let l = c .before .before .loop in
+    (omega arith, step _ (l .k) _ _ _ (l .inv .1) (c .byte .ensures), more (l .k) (l .v) _ (l .inv .2) (omega arith))
 
--- src/lib.rt:22:1
 returns : tie.Need-returns Inv-loop μ-loop
 returns c =
     let a = c .before .before .before .args in
-    let e : c .before .loop .k ≡ a .n = omega arith in
-    (c .before .loop .inv .1 ∙ ap (λ (m : ℕ). number m (now (a .s)) (a .at)) e, subst (λ (m : ℕ). c .before .loop .v < 256 ^ m) e (c .before .loop .inv .2))
+    let l = c .before .loop in
+    let e : l .k ≡ a .n = omega arith in
+    (l .inv .1 ∙ ap (λ (m : ℕ). number m (now (a .s)) (a .at)) e, subst (λ (m : ℕ). l .v < 256 ^ m) e (l .inv .2))
 
 pub read-spec : {M : Type 1} → statement M
 read-spec =
@@ -84,8 +73,8 @@ read-spec =
     μ-loop
     loop-holds
     byte-requires
+    cast-b
     mul-v
-    cast-v
     add-v
     add-k
     loop-less
