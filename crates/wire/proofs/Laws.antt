@@ -1,3 +1,4 @@
+pub mod Below
 pub mod Number
 pub mod Sequence
 pub mod Signed

@@ -1,3 +1,4 @@
+pub mod Below
 pub mod Examples
 pub mod Number
 pub mod Sequence

@@ -7,6 +7,7 @@ use native.Mathlib.Omega.{arith}
 use native.Mathlib.Decide.{decLt}
 use borrow.Author.Tests.{le-leb, lt-leb, leb-true}
 use lib.Dec.{leb}
+use Rattle.wire.proofs.Laws.Below.{both}
 use Rattle.wire.specs.Sequence.{distance, isNewer, NeverItself, OneWay, ShiftSame, OtherWay}
 
 -- the number d after last is d ahead of it
@@ -22,10 +23,6 @@ distance-shift a b k ha hb = omega arith
 pub newer-near : (last new : ℕ) → 1 ≤ distance last new → distance last new ≤ 32767 → isNewer true last new ≡ true
 unfolding isNewer
 newer-near last new l u = simp (le-leb 1 (distance last new) l, le-leb (distance last new) 32767 u)
-
-both : (a b : Bool) → a && b ≡ true → (a ≡ true) × (b ≡ true)
-both true b e = (refl, e)
-both false b e = let bad : _≡_ {A = ℕ} 0 1 = cc in absurd (let no : ⊥ = omega arith in no)
 
 pub near-newer : (last new : ℕ) → isNewer true last new ≡ true → (1 ≤ distance last new) × (distance last new ≤ 32767)
 unfolding isNewer

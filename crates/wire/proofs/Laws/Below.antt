@@ -1,0 +1,46 @@
+-- Laws of `allBelow`. Assumes nothing.
+use Prim.Native.Nat.{ℕ, zero, suc, _+_, _<_}
+use mathlib.Core.Path.{_≡_, refl, sym, _∙_, subst}
+use mathlib.Core.Bool.{Bool, true, false, _&&_}
+use native.Mathlib.Decide.{decLt}
+use native.Mathlib.Numerals.{add-one}
+use native.Mathlib.Omega.{arith}
+use Rattle.wire.specs.Below.{allBelow}
+
+pub both : (a b : Bool) → a && b ≡ true → (a ≡ true) × (b ≡ true)
+both true b e = (refl, e)
+both false b e = let bad : _≡_ {A = ℕ} 0 1 = cc in absurd (let no : ⊥ = omega arith in no)
+
+pub and-false : (a : Bool) → a && false ≡ false
+and-false true = refl
+and-false false = refl
+
+module _ (p : ℕ → Bool) where
+  -- one number more
+  pub below-next : (n : ℕ) → allBelow n p ≡ true → p n ≡ true → allBelow (n + 1) p ≡ true
+  unfolding allBelow
+  below-next n e h = rw add-one (simp (e, h))
+
+  -- it holds of each, so of every
+  pub all-below : (n : ℕ) → ((k : ℕ) → k < n → p k ≡ true) → allBelow n p ≡ true
+  unfolding allBelow
+  all-below zero h = refl
+  all-below (suc n) h = simp (all-below n (λ k l. h k (omega arith)), h n (omega arith))
+
+  -- it fails of one
+  pub one-below : (n k : ℕ) → k < n → p k ≡ false → allBelow n p ≡ false
+  unfolding allBelow
+  one-below zero k l e = absurd (let no : ⊥ = omega arith in no)
+  one-below (suc n) k l e =
+      elim (decLt k n) [
+        | yes less ↦ simp (one-below n k less e)
+        | no less ↦ let last : k ≡ n = omega arith in simp (subst (λ (j : ℕ). p j ≡ false) last e) (and-false (allBelow n p))
+      ]
+
+  -- it holds of every, so of each
+  pub below-all : (n : ℕ) → allBelow n p ≡ true → (k : ℕ) → k < n → p k ≡ true
+  below-all n h k l = go (p k) refl
+    where
+      go : (b : Bool) → p k ≡ b → b ≡ true
+      go true e = refl
+      go false e = sym (one-below n k l e) ∙ h
