@@ -4,6 +4,7 @@
 //! `expected --check CRATES` compares each with the file `stdout` of that crate below the folder
 //! `CRATES`, one line a crate; the exit status is 1 where one differs.
 
+mod session;
 mod wire;
 
 use std::path::Path;
@@ -11,7 +12,8 @@ use std::process::ExitCode;
 use std::{env, fs};
 
 /// The program crates by name, each with what it must print.
-const PROGRAMS: [(&str, fn() -> String); 1] = [("wire_run", wire::lines)];
+const PROGRAMS: [(&str, fn() -> String); 2] =
+    [("wire_run", wire::lines), ("session_run", session::lines)];
 
 fn main() -> ExitCode {
     let arguments: Vec<String> = env::args().skip(1).collect();
