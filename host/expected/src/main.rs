@@ -4,6 +4,8 @@
 //! `expected --check CRATES` compares each with the file `stdout` of that crate below the folder
 //! `CRATES`, one line a crate; the exit status is 1 where one differs.
 
+mod limits;
+mod messages;
 mod session;
 mod wire;
 
@@ -12,8 +14,12 @@ use std::process::ExitCode;
 use std::{env, fs};
 
 /// The program crates by name, each with what it must print.
-const PROGRAMS: [(&str, fn() -> String); 2] =
-    [("wire_run", wire::lines), ("session_run", session::lines)];
+const PROGRAMS: [(&str, fn() -> String); 4] = [
+    ("wire_run", wire::lines),
+    ("message_run", messages::lines),
+    ("session_run", session::lines),
+    ("limits_run", limits::lines),
+];
 
 fn main() -> ExitCode {
     let arguments: Vec<String> = env::args().skip(1).collect();

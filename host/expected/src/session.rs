@@ -31,9 +31,10 @@ pub fn lines() -> String {
             for kept in [false, true] {
                 for which in 0..3 {
                     for options in KEPT_OPTIONS {
-                        text.extend(BROUGHT_OPTIONS.map(|brought| {
-                            line(state, event, kept, which, options, brought)
-                        }));
+                        text.extend(
+                            BROUGHT_OPTIONS
+                                .map(|brought| line(state, event, kept, which, options, brought)),
+                        );
                     }
                 }
             }

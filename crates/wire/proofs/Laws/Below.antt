@@ -2,14 +2,20 @@
 use Prim.Native.Nat.{ℕ, zero, suc, _+_, _<_}
 use mathlib.Core.Path.{_≡_, refl, sym, _∙_, subst}
 use mathlib.Core.Bool.{Bool, true, false, _&&_}
+use borrow.Author.Tests.{eqb-true}
+use lib.Dec.{eqb}
 use native.Mathlib.Decide.{decLt}
 use native.Mathlib.Numerals.{add-one}
 use native.Mathlib.Omega.{arith}
 use Rattle.wire.specs.Below.{allBelow}
 
+-- what `cc` shows of two constructors that are taken for equal
+pub impossible : {A : Type 0} → _≡_ {A = ℕ} 0 1 → A
+impossible bad = absurd (let no : ⊥ = omega arith in no)
+
 pub both : (a b : Bool) → a && b ≡ true → (a ≡ true) × (b ≡ true)
 both true b e = (refl, e)
-both false b e = let bad : _≡_ {A = ℕ} 0 1 = cc in absurd (let no : ⊥ = omega arith in no)
+both false b e = impossible (cc)
 
 pub and-false : (a : Bool) → a && false ≡ false
 and-false true = refl
@@ -44,3 +50,7 @@ module _ (p : ℕ → Bool) where
       go : (b : Bool) → p k ≡ b → b ≡ true
       go true e = refl
       go false e = sym (one-below n k l e) ∙ h
+
+-- a rule computed at every number below n
+pub computed : (n : ℕ) (f g : ℕ → ℕ) → allBelow n (λ k. eqb (f k) (g k)) ≡ true → (k : ℕ) → k < n → f k ≡ g k
+computed n f g e k l = eqb-true (f k) (g k) (below-all (λ i. eqb (f i) (g i)) n e k l)

@@ -1,0 +1,5 @@
+pub mod Grammar
+pub mod Hex
+pub mod Range
+pub mod Theorems
+pub mod Writing

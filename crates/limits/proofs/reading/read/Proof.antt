@@ -1,0 +1,87 @@
+-- The tests are those of the definition, in its order. Assumes nothing.
+use borrow.Author.Needs.{needs}
+use borrow.Author.Tests.{eq-eqb, ne-eqb}
+use Rattle.limits.specs.Reading.{readValue}
+use Rattle.limits.proofs.reading.read.Statement.{statement}
+use Rattle.limits.proofs.reading.read.Tie as tie
+
+returns : tie.Need-returns
+unfolding readValue
+returns c = simp (← c .before .spelled .ensures, c .if1 .taken)
+
+returns-2 : tie.Need-returns-2
+unfolding readValue
+returns-2 c =
+    let f = c .before in
+    simp (c .not-grammar .ensures, ← f .before .before .spelled .ensures, f .before .if1 .left, ne-eqb _ _ (f .if2 .taken))
+
+returns-3 : tie.Need-returns-3
+unfolding readValue
+returns-3 c =
+    let two = c .before .before in
+    let f = two .before .before .before in
+    simp (
+      ← f .before .before .spelled .ensures,
+      f .before .if1 .left,
+      eq-eqb _ _ (f .if2 .left),
+      ← two .spelled2 .ensures,
+      c .before .if3 .taken,
+      ← c .read-limits .ensures,
+    )
+
+returns-4 : tie.Need-returns-4
+unfolding readValue
+returns-4 c =
+    let three = c .before .before in
+    let two = three .before .before .before in
+    let f = two .before .before .before in
+    simp (
+      ← f .before .before .spelled .ensures,
+      f .before .if1 .left,
+      eq-eqb _ _ (f .if2 .left),
+      ← two .spelled2 .ensures,
+      three .before .before .if3 .left,
+      ← three .spelled3 .ensures,
+      c .before .if4 .taken,
+      ← c .read-limits2 .ensures,
+    )
+
+returns-5 : tie.Need-returns-5
+unfolding readValue
+returns-5 c =
+    let three = c .before .before in
+    let two = three .before .before .before in
+    let f = two .before .before .before in
+    simp (
+      c .not-grammar2 .ensures,
+      ← f .before .before .spelled .ensures,
+      f .before .if1 .left,
+      eq-eqb _ _ (f .if2 .left),
+      ← two .spelled2 .ensures,
+      three .before .before .if3 .left,
+      ← three .spelled3 .ensures,
+      c .before .if4 .left,
+    )
+
+pub read-spec : {M : Type 1} → statement M
+read-spec =
+    tie.close
+    (tie.spec
+    (λ c. search needs)
+    (λ c κs. search needs)
+    returns
+    (λ c κs. search needs)
+    returns-2
+    (λ c. search needs)
+    (λ c. search needs)
+    (λ c. search needs)
+    (λ c. search needs)
+    (λ c κs. search needs)
+    (λ c κs. search needs)
+    returns-3
+    (λ c. search needs)
+    (λ c κs. search needs)
+    (λ c κs. search needs)
+    returns-4
+    (λ c κs. search needs)
+    returns-5)
