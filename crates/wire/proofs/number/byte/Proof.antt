@@ -1,9 +1,10 @@
-use mathlib.Core.Path.{sym}
-use lib.ListN.{List·getD-eq-default}
-use native.Mathlib.Omega.{arith}
+-- Past the end of a list `getD` answers 0, as the code does. Assumes nothing.
 use Prim.Native.Nat.{_+_}
+use mathlib.Core.Path.{sym}
+use native.Mathlib.Omega.{arith}
 use borrow.Author.Needs.{needs}
 use denote.Ref.{now}
+use lib.ListN.{List·getD-eq-default}
 use Rattle.wire.proofs.number.byte.Statement.{statement}
 use Rattle.wire.proofs.number.byte.Tie as tie
 

@@ -1,4 +1,4 @@
--- Assumes nothing.
+-- Each need is a law of two's complement at this width. Assumes nothing.
 use mathlib.Core.Path.{refl, _∙_, subst, sym}
 use native.Mathlib.Omega.{arith}
 use borrow.Author.Needs.{needs}

@@ -1,4 +1,4 @@
--- Assumes nothing.
+-- Each need is a law of two's complement at this width. Assumes nothing.
 use mathlib.Core.Path.{refl, _∙_}
 use native.Mathlib.Omega.{arith}
 use mir.Syntax.{w16}
