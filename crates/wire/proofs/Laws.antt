@@ -1,4 +1,5 @@
 pub mod Below
+pub mod Bool
 pub mod Number
 pub mod Sequence
 pub mod Signed

@@ -1,9 +1,8 @@
 -- Small examples of this crate's definitions, those of 01, "Proved table of small examples", among them. Each is computed.
-use Prim.Native.Nat.{ℕ}
 use mathlib.Core.Path.{_≡_, refl}
-use mathlib.Core.Bool.{Bool, true, false, not, _&&_}
-use mathlib.Core.List.{List, [], _∷_}
-use lib.IntN.{ℤ, pos, negsuc}
+use mathlib.Core.Bool.{true, false, not, _&&_}
+use mathlib.Core.List.{[], _∷_}
+use lib.IntN.{pos, negsuc}
 use Rattle.wire.specs.Splice.{splice}
 use Rattle.wire.specs.Number.{number, bytes, written}
 use Rattle.wire.specs.Signed.{signed, unsigned}

@@ -15,18 +15,18 @@ isNewer known last new = cond known (leb 1 (distance last new) && leb (distance 
 -- The laws of this order, for sequence numbers, which are below 65,536. Their proofs stand in proofs/Laws/Sequence.antt.
 
 -- no number is newer than itself
-unfoldable pub NeverItself : Type 0
+abbrev pub NeverItself : Type 0
 NeverItself = (s : ℕ) → s < 65536 → isNewer true s s ≡ false
 
 -- of two numbers at most one is newer than the other
-unfoldable pub OneWay : Type 0
+abbrev pub OneWay : Type 0
 OneWay = (a b : ℕ) → a < 65536 → b < 65536 → isNewer true a b ≡ true → isNewer true b a ≡ false
 
 -- of two numbers that differ, and not by half of the range, one is newer than the other
-unfoldable pub OtherWay : Type 0
+abbrev pub OtherWay : Type 0
 OtherWay =
     (a b : ℕ) → a < 65536 → b < 65536 → (a ≡ b → ⊥) → (distance a b ≡ 32768 → ⊥) → isNewer true a b ≡ false → isNewer true b a ≡ true
 
 -- both moved by the same amount, past 65,535 too, are in the same order
-unfoldable pub ShiftSame : Type 0
+abbrev pub ShiftSame : Type 0
 ShiftSame = (a b k : ℕ) → a < 65536 → b < 65536 → isNewer true ((a + k) % 65536) ((b + k) % 65536) ≡ isNewer true a b

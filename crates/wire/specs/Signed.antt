@@ -15,5 +15,5 @@ unsigned n (pos x) = x
 unsigned n (negsuc k) = 256 ^ n - suc k
 
 -- Both ways, for any number of bytes. The proof stands in proofs/Laws/Signed.antt.
-unfoldable pub SignedBack : Type 0
+abbrev pub SignedBack : Type 0
 SignedBack = (n x : ℕ) → x < 256 ^ n → unsigned n (signed n x) ≡ x

@@ -16,7 +16,8 @@ use Rattle.limits.specs.Grammar.{Letter, small, capital, Quoted, no-lett
 use Rattle.limits.specs.Hex.{digitValue, isDigit, number, readDigits, digitOf, spellDigits}
 use Rattle.limits.specs.Word.{lowered, sameLetter, spells}
 use Rattle.limits.specs.Theorems.{raised}
-use Rattle.wire.proofs.Laws.Below.{impossible, and-false, both, one-below, below-all, all-below, computed}
+use Rattle.wire.proofs.Laws.Below.{one-below, below-all, all-below, computed}
+use Rattle.wire.proofs.Laws.Bool.{impossible, and-false, both}
 use Rattle.limits.proofs.Laws.Range.{inside, below, above, within-true}
 use Rattle.limits.proofs.Laws.Hex.{decimal-value, upper-value, lower-value, no-value}
 

@@ -4,7 +4,7 @@ use mathlib.Core.Path.{_≡_}
 use mathlib.Core.Bool.{true, false}
 use borrow.Author.Tests.{le-leb, lt-leb, leb-true}
 use lib.Dec.{leb}
-use Rattle.wire.proofs.Laws.Below.{and-false, both}
+use Rattle.wire.proofs.Laws.Bool.{and-false, both}
 use Rattle.limits.specs.Range.{within}
 
 module _ (low high b : ℕ) where

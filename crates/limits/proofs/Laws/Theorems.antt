@@ -29,7 +29,7 @@ use Rattle.limits.specs.Word.{lowered, sameLetter, spells, copied}
 use Rattle.limits.specs.Reading.{answerNumber, answerPlace, notGrammar, readField, limitsOf, part, readLimits, readValue}
 use Rattle.limits.specs.Writing.{spellXor, spellField, spellLimits, spelling, writeAnswer}
 use Rattle.limits.specs.Theorems.{AcceptsGrammar, RefusesTheRest, TenIfShort, OneMeaning, Sized, none-sized, limits-sized, ReadsBack, raised, canonical, Canonical}
-use Rattle.wire.proofs.Laws.Below.{impossible}
+use Rattle.wire.proofs.Laws.Bool.{impossible}
 use Rattle.limits.proofs.Laws.Grammar.{quoted-length, quoted-lowered, quoted-spells, spells-quoted, none-small, full-small, full-not-none, hexdigs-length, hexdigs-read, read-hexdigs, hexdigs-small, spelled-hexdigs, hexdigs-raised}
 use Rattle.limits.proofs.Laws.Writing.{length-part, copied-fits}
 

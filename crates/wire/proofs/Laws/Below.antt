@@ -2,26 +2,20 @@
 use Prim.Native.Nat.{ℕ, zero, suc, _+_, _<_}
 use mathlib.Core.Path.{_≡_, refl, sym, _∙_, subst}
 use mathlib.Core.Bool.{Bool, true, false, _&&_}
+use mathlib.Core.Logic.{⊎-elim}
 use borrow.Author.Tests.{eqb-true}
 use lib.Dec.{eqb}
 use native.Mathlib.Decide.{decLt}
 use native.Mathlib.Numerals.{add-one}
 use native.Mathlib.Omega.{arith}
 use Rattle.wire.specs.Below.{allBelow}
-
--- what `cc` shows of two constructors that are taken for equal
-pub impossible : {A : Type 0} → _≡_ {A = ℕ} 0 1 → A
-impossible bad = absurd (let no : ⊥ = omega arith in no)
-
-pub both : (a b : Bool) → a && b ≡ true → (a ≡ true) × (b ≡ true)
-both true b e = (refl, e)
-both false b e = impossible (cc)
-
-pub and-false : (a : Bool) → a && false ≡ false
-and-false true = refl
-and-false false = refl
+use Rattle.wire.proofs.Laws.Bool.{either, not-both, and-false}
 
 module _ (p : ℕ → Bool) where
+  pub below-none : allBelow 0 p ≡ true
+  unfolding allBelow
+  below-none = refl
+
   -- one number more
   pub below-next : (n : ℕ) → allBelow n p ≡ true → p n ≡ true → allBelow (n + 1) p ≡ true
   unfolding allBelow
@@ -42,6 +36,20 @@ module _ (p : ℕ → Bool) where
         | yes less ↦ simp (one-below n k less e)
         | no less ↦ let last : k ≡ n = omega arith in simp (subst (λ (j : ℕ). p j ≡ false) last e) (and-false (allBelow n p))
       ]
+
+  -- where it does not hold of every, it fails of one
+  pub one-fails : (n : ℕ) → allBelow n p ≡ false → (k : ℕ) × (k < n) × (p k ≡ false)
+  unfolding allBelow
+  one-fails zero a = not-both true refl a
+  one-fails (suc n) a =
+      ⊎-elim
+      (λ (e : p n ≡ true). let r = one-fails n (only e (allBelow n p) a) in (r .0, omega arith, r .2))
+      (λ (e : p n ≡ false). (n, omega arith, e))
+      (either (p n))
+    where
+      only : p n ≡ true → (b : Bool) → b && p n ≡ false → b ≡ false
+      only e true f = not-both (p n) e f
+      only e false f = refl
 
   -- it holds of every, so of each
   pub below-all : (n : ℕ) → allBelow n p ≡ true → (k : ℕ) → k < n → p k ≡ true

@@ -1,9 +1,9 @@
 -- Laws of numbers in bytes, each over the number of bytes. Assumes nothing.
 use Prim.Native.Nat.{ℕ, zero, suc, _+_, _-_, _*_, _/_, _%_, _^_, _≤_, _<_}
-use mathlib.Core.Path.{_≡_, refl, sym, ap, _∙_}
+use mathlib.Core.Path.{_≡_, refl, ap, _∙_}
 use mathlib.Core.List.{List, [], _∷_, _++_}
 use native.Mathlib.Omega.{arith}
-use lib.ListN.{length, getD, take, drop, set, length-append, length-drop, List·getD-append}
+use lib.ListN.{length, getD, drop, set, length-append, length-drop, List·getD-append}
 use lib.Seq.{getD-at, getD-drop, take-suc}
 use borrow.Author.Tests.{le-leb}
 use Rattle.wire.specs.Splice.{splice}
@@ -44,7 +44,7 @@ number-bytes (suc n) v h =
 
 -- what is written reads back
 pub reads-back : ReadsBack
-unfolding ReadsBack written
+unfolding written
 reads-back n v at xs h small =
     let e : length (bytes n v) ≡ n = length-bytes n v in
     simp (le-leb (at + n) (length xs) h)
@@ -56,7 +56,7 @@ reads-back n v at xs h small =
 
 -- what was read writes back, where every element is a byte
 pub writes-back : WritesBack
-unfolding WritesBack bytes number
+unfolding bytes number
 writes-back zero at s h small = refl
 writes-back (suc n) at s h small =
     let b = getD s (at + n) 0 in

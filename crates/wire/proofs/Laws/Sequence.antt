@@ -1,13 +1,13 @@
 -- Laws of the order of sequence numbers. Assumes nothing.
 use Prim.Native.Nat.{ℕ, _+_, _-_, _%_, _≤_, _<_}
-use mathlib.Core.Path.{_≡_, refl, sym, ap, _∙_}
+use mathlib.Core.Path.{_≡_}
 use mathlib.Core.Logic.{_⊎_, inl, inr}
-use mathlib.Core.Bool.{Bool, true, false, _&&_}
+use mathlib.Core.Bool.{true, false}
 use native.Mathlib.Omega.{arith}
 use native.Mathlib.Decide.{decLt}
 use borrow.Author.Tests.{le-leb, lt-leb, leb-true}
 use lib.Dec.{leb}
-use Rattle.wire.proofs.Laws.Below.{both}
+use Rattle.wire.proofs.Laws.Bool.{both}
 use Rattle.wire.specs.Sequence.{distance, isNewer, NeverItself, OneWay, ShiftSame, OtherWay}
 
 -- the number d after last is d ahead of it
@@ -43,19 +43,19 @@ not-newer last new (inl e) = simp e
 not-newer last new (inr l) = simp (lt-leb (distance last new) 32767 l, le-leb 1 (distance last new) (omega arith))
 
 pub never-itself : NeverItself
-unfolding NeverItself distance
+unfolding distance
 never-itself s h = not-newer s s (inl (omega arith))
 
 pub one-way : OneWay
-unfolding OneWay distance
+unfolding distance
 one-way a b ha hb e = not-newer b a (inr (omega (arith, near-newer a b e .0, near-newer a b e .1)))
 
 pub shift-same : ShiftSame
-unfolding ShiftSame isNewer
+unfolding isNewer
 shift-same a b k ha hb = rw (distance-shift a b k ha hb)
 
 pub other-way : OtherWay
-unfolding OtherWay distance
+unfolding distance
 other-way a b ha hb n m e =
     let far : 32767 < distance a b = far-apart a b e (omega arith) in
     newer-near b a (omega arith) (omega arith)

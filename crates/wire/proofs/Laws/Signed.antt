@@ -1,11 +1,11 @@
 -- Laws of two's complement: it goes back, and for n bytes it is the machine's of the width w that has as many bits. Assumes nothing.
 use Prim.Native.Nat.{ℕ, suc, _+_, _-_, _*_, _^_, _≤_, _<_}
 use mathlib.Core.Path.{_≡_, refl, sym, ap, _∙_}
-use mathlib.Core.Bool.{cond, true, false}
+use mathlib.Core.Bool.{true, false}
 use native.Mathlib.Omega.{arith}
 use native.Mathlib.Decide.{decLt}
 use borrow.Author.Tests.{lt-ltb, le-ltb, leb-false}
-use lib.IntN.{ℤ, pos, negsuc, subℕ, natAbs, _+ℤ_, _-ℤ_}
+use lib.IntN.{ℤ, pos, negsuc, natAbs, _+ℤ_, _-ℤ_}
 use lib.Signed.{leZ, nonNeg}
 use lib.Dec.{T}
 use mir.Syntax.{Width}
@@ -14,7 +14,7 @@ use mir.ValLaws.{toZ-ofZ, ofZ-fits}
 use Rattle.wire.specs.Signed.{signed, unsigned, SignedBack}
 
 pub signed-back : SignedBack
-unfolding SignedBack signed unsigned
+unfolding signed unsigned
 signed-back n x h =
     elim (decLt (2 * x) (256 ^ n)) [
       | yes l ↦ simp (lt-ltb (2 * x) (256 ^ n) l)

@@ -1,9 +1,8 @@
 -- Each need is a law of two's complement at this width. Assumes nothing.
-use mathlib.Core.Path.{refl, _∙_, subst, sym}
+use mathlib.Core.Path.{refl, _∙_}
 use native.Mathlib.Omega.{arith}
 use borrow.Author.Needs.{needs}
 use mir.Syntax.{w16}
-use mir.Val.{SFits}
 use mir.ValLaws.{toZ-ofZ, toZ-fits}
 use Rattle.wire.proofs.Laws.Signed.{signed-toZ, upper-half}
 use Rattle.wire.proofs.signed.signed16.Statement.{statement}

@@ -1,0 +1,9 @@
+pub mod Rules
+pub mod Record
+pub mod Reading
+pub mod Writing
+pub mod WithField
+pub mod WellFormed
+pub mod ReadsBack
+pub mod WritesBack
+pub mod Written

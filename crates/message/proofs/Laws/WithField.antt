@@ -1,0 +1,62 @@
+-- The size and the bytes of a record with one field more: what the types below it and above it add stays the same. Assumes nothing.
+use Prim.Native.Nat.{ℕ, zero, suc, _+_, _<_, _≤_}
+use mathlib.Core.Path.{_≡_, refl, sym, ap, _∙_}
+use mathlib.Core.Bool.{true, false}
+use mathlib.Core.List.{List, [], _++_, append-nil}
+use mathlib.Core.Logic.{⊎-elim}
+use native.Mathlib.Omega.{arith}
+use native.Mathlib.Nat.{eq-or-lt-of-le}
+use Rattle.message.specs.declared.record.Field.{Field}
+use Rattle.message.specs.declared.record.Message.{Message}
+use Rattle.message.specs.Record.{fieldOf, withField, emptyOf}
+use Rattle.message.specs.Writing.{tlvSize, sizeTo, tlvBytes, bodyTo}
+use Rattle.message.proofs.Laws.Record.{field-same, field-other, field-empty}
+
+pub size-empty : (c k : ℕ) → sizeTo (emptyOf c) k ≡ 4
+unfolding sizeTo tlvSize
+size-empty c zero = refl
+size-empty c (suc k) = simp (field-empty c k) (omega (arith, size-empty c k))
+
+pub body-empty : (s : List ℕ) (c k : ℕ) → bodyTo s (emptyOf c) k ≡ []
+unfolding bodyTo
+body-empty s c zero = refl
+body-empty s c (suc k) = simp (field-empty c k, body-empty s c k)
+
+module _ (m : Message) (t : ℕ) (f : Field) (small : t < 8) (not-1 : t ≡ 1 → ⊥) (there : f .present ≡ true) where
+  size-low : (k : ℕ) → k ≤ t → sizeTo (withField m t f) k ≡ sizeTo m k
+  unfolding sizeTo
+  size-low zero h = refl
+  size-low (suc k) h = rw (size-low k (omega arith), field-other m t k f (λ (q : t ≡ k). omega arith))
+
+  -- a new field adds its size
+  pub size-with : fieldOf m t .present ≡ false → (k : ℕ) → t < k → k ≤ 8 → sizeTo (withField m t f) k ≡ sizeTo m k + (3 + f .len)
+  unfolding sizeTo tlvSize
+  size-with gone zero h b = absurd (let no : ⊥ = omega arith in no)
+  size-with gone (suc k) h b =
+      ⊎-elim
+      (λ (q : t ≡ k).
+      let g = ap (fieldOf (withField m t f)) (sym q) ∙ field-same m f t small not-1 in
+      let n : fieldOf m k .present ≡ false = ap (λ (i : ℕ). fieldOf m i .present) (sym q) ∙ gone in
+      simp (g, there, n) (omega (arith, size-low k (omega arith))))
+      (λ (q : t < k). simp (field-other m t k f (λ (o : t ≡ k). omega arith)) (omega (arith, size-with gone k q (omega arith))))
+      (eq-or-lt-of-le {n = t} {m = k} (omega arith))
+
+  module _ (s : List ℕ) where
+    body-low : (k : ℕ) → k ≤ t → bodyTo s (withField m t f) k ≡ bodyTo s m k
+    unfolding bodyTo
+    body-low zero h = refl
+    body-low (suc k) h = rw (body-low k (omega arith), field-other m t k f (λ (q : t ≡ k). omega arith))
+
+    -- a new field of a type above all others adds its bytes at the end
+    pub body-with
+        : ((u : ℕ) → t ≤ u → fieldOf m u .present ≡ false) → (k : ℕ) → t < k → k ≤ 8
+        → bodyTo s (withField m t f) k ≡ bodyTo s m k ++ tlvBytes s t f
+    unfolding bodyTo
+    body-with gone zero h b = absurd (let no : ⊥ = omega arith in no)
+    body-with gone (suc k) h b =
+        ⊎-elim
+        (λ (q : t ≡ k).
+        let g = ap (fieldOf (withField m t f)) (sym q) ∙ field-same m f t small not-1 in
+        simp (body-low k (omega arith), g, there, gone k (omega arith), append-nil) (ap (λ (i : ℕ). bodyTo s m k ++ tlvBytes s i f) (sym q)))
+        (λ (q : t < k). simp (body-with gone k q (omega arith), field-other m t k f (λ (o : t ≡ k). omega arith), gone k (omega arith), append-nil))
+        (eq-or-lt-of-le {n = t} {m = k} (omega arith))

@@ -1,0 +1,19 @@
+-- Where the value is there, the number is read at its place. Assumes nothing.
+use Rattle.message.specs.Accessors.{portOf}
+use borrow.Author.Needs.{needs}
+use Rattle.message.proofs.accessors.rtsp_port.Statement.{statement}
+use Rattle.message.proofs.accessors.rtsp_port.Tie as tie
+
+u16-at-requires : tie.Need-u16-at-requires
+u16-at-requires c κs = search needs
+
+returns : tie.Need-returns
+unfolding portOf
+returns c = simp (c .before .if1 .taken, ← c .u16-at .ensures)
+
+returns-2 : tie.Need-returns-2
+unfolding portOf
+returns-2 c = simp (c .if1 .left)
+
+pub rtsp-port-spec : {M : Type 1} → statement M
+rtsp-port-spec = tie.close (tie.spec u16-at-requires returns returns-2)

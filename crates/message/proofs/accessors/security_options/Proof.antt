@@ -1,0 +1,19 @@
+-- Where the value is there, the number is read at its place. Assumes nothing.
+use Rattle.message.specs.Accessors.{optionsOf}
+use borrow.Author.Needs.{needs}
+use Rattle.message.proofs.accessors.security_options.Statement.{statement}
+use Rattle.message.proofs.accessors.security_options.Tie as tie
+
+u8-at-requires : tie.Need-u8-at-requires
+u8-at-requires c κs = search needs
+
+returns : tie.Need-returns
+unfolding optionsOf
+returns c = simp (c .before .if1 .taken, ← c .u8-at .ensures)
+
+returns-2 : tie.Need-returns-2
+unfolding optionsOf
+returns-2 c = simp (c .if1 .left)
+
+pub security-options-spec : {M : Type 1} → statement M
+security-options-spec = tie.close (tie.spec u8-at-requires returns returns-2)

@@ -1,0 +1,165 @@
+-- The tests are those of the definition. Assumes nothing.
+use Prim.Native.Nat.{_+_}
+use native.Mathlib.Omega.{arith}
+use denote.Ref.{now}
+use lib.ListN.{length}
+use borrow.Author.Tests.{eq-eqb, ne-eqb, lt-ltb, le-ltb}
+use Rattle.message.specs.Reading.{tlvAt}
+use borrow.Author.Needs.{needs}
+use Rattle.message.proofs.reader.read_tlv.Statement.{statement}
+use Rattle.message.proofs.reader.read_tlv.Tie as tie
+
+sub-left : tie.Need-sub-left
+sub-left c = search needs
+
+returns : tie.Need-returns
+unfolding tlvAt
+returns c = let a = c .before .before .args in simp (lt-ltb (length (now (a .bytes))) (a .at + 3) (omega arith))
+
+shared-slice-read-kind : tie.Need-shared-slice-read-kind
+shared-slice-read-kind c = search needs
+
+add-u16-at : tie.Need-add-u16-at
+add-u16-at c = search needs
+
+u16-at-requires : tie.Need-u16-at-requires
+u16-at-requires c κs = search needs
+
+cast-len : tie.Need-cast-len
+cast-len c = search needs
+
+returns-2 : tie.Need-returns-2
+unfolding tlvAt
+returns-2 c =
+    let a = c .before .before .before .before .before .args in
+    let n = length (now (a .bytes)) in
+    let r = c .before .u16-at .result in
+    simp (le-ltb n (a .at + 3) (omega arith), ← c .before .u16-at .ensures, lt-ltb n (a .at + 3 + r) (omega arith))
+
+role-requires : tie.Need-role-requires
+role-requires c κs = search needs
+
+returns-3 : tie.Need-returns-3
+unfolding tlvAt
+returns-3 c =
+    let u16-at = c .before .before .before .u16-at in
+    let a = c .before .before .before .before .before .before .before .args in
+    let n = length (now (a .bytes)) in
+    let r = u16-at .result in
+    simp (
+      le-ltb n (a .at + 3) (omega arith),
+      ← u16-at .ensures,
+      le-ltb n (a .at + 3 + r) (omega arith),
+      ← c .before .role .ensures,
+      eq-eqb _ _ (c .if3 .taken),
+    )
+
+length-ok-requires : tie.Need-length-ok-requires
+length-ok-requires c κs = search needs
+
+returns-4 : tie.Need-returns-4
+unfolding tlvAt
+returns-4 c =
+    let u16-at = c .before .before .before .before .before .u16-at in
+    let role = c .before .before .before .role in
+    let if3 = c .before .before .if3 in
+    let a = c .before .before .before .before .before .before .before .before .before .args in
+    let n = length (now (a .bytes)) in
+    let r = u16-at .result in
+    simp (
+      le-ltb n (a .at + 3) (omega arith),
+      ← u16-at .ensures,
+      le-ltb n (a .at + 3 + r) (omega arith),
+      ← role .ensures,
+      ne-eqb _ _ (if3 .left),
+      ← c .before .length-ok .ensures,
+      c .if4 .taken,
+    )
+
+field-of-requires : tie.Need-field-of-requires
+field-of-requires c κs = search needs
+
+returns-5 : tie.Need-returns-5
+unfolding tlvAt
+returns-5 c =
+    let u16-at = c .before .before .before .before .before .before .before .u16-at in
+    let role = c .before .before .before .before .before .role in
+    let if3 = c .before .before .before .before .if3 in
+    let length-ok = c .before .before .before .length-ok in
+    let if4 = c .before .before .if4 in
+    let a = c .before .before .before .before .before .before .before .before .before .before .before .args in
+    let n = length (now (a .bytes)) in
+    let r = u16-at .result in
+    simp (
+      le-ltb n (a .at + 3) (omega arith),
+      ← u16-at .ensures,
+      le-ltb n (a .at + 3 + r) (omega arith),
+      ← role .ensures,
+      ne-eqb _ _ (if3 .left),
+      ← length-ok .ensures,
+      if4 .left,
+      ← c .before .field-of .ensures,
+      c .if5 .taken,
+    )
+
+add-t9 : tie.Need-add-t9
+add-t9 c = search needs
+
+add-t9-2 : tie.Need-add-t9-2
+add-t9-2 c = search needs
+
+add-t20 : tie.Need-add-t20
+add-t20 c = search needs
+
+with-field-requires : tie.Need-with-field-requires
+with-field-requires c κs = search needs
+
+returns-6 : tie.Need-returns-6
+unfolding tlvAt
+returns-6 c =
+    let u16-at = c .before .before .before .before .before .before .before .before .u16-at in
+    let role = c .before .before .before .before .before .before .role in
+    let if3 = c .before .before .before .before .before .if3 in
+    let length-ok = c .before .before .before .before .length-ok in
+    let if4 = c .before .before .before .if4 in
+    let field-of = c .before .before .field-of in
+    let a = c .before .before .before .before .before .before .before .before .before .before .before .before .args in
+    let long = c .before .before .before .before .before .before .before .before .before .before .if1 .left in
+    let whole = c .before .before .before .before .before .before .before .if2 .left in
+    let n = length (now (a .bytes)) in
+    let r = u16-at .result in
+    simp (
+      le-ltb n (a .at + 3) (omega (arith, long)),
+      ← u16-at .ensures,
+      le-ltb n (a .at + 3 + r) (omega (arith, long, whole)),
+      ← role .ensures,
+      ne-eqb _ _ (if3 .left),
+      ← length-ok .ensures,
+      if4 .left,
+      ← field-of .ensures,
+      c .before .if5 .left,
+      ← c .with-field .ensures,
+    )
+
+pub read-tlv-spec : {M : Type 1} → statement M
+read-tlv-spec =
+    tie.close
+    (tie.spec
+    sub-left
+    returns
+    shared-slice-read-kind
+    add-u16-at
+    u16-at-requires
+    cast-len
+    returns-2
+    role-requires
+    returns-3
+    length-ok-requires
+    returns-4
+    field-of-requires
+    returns-5
+    add-t9
+    add-t9-2
+    add-t20
+    with-field-requires
+    returns-6)

@@ -1,0 +1,7 @@
+pub mod Rules
+pub mod Record
+pub mod Reading
+pub mod Accessors
+pub mod Writing
+pub mod Examples
+pub mod Theorems

@@ -1,0 +1,191 @@
+// Reads the messages of section 4 of documents 000 and 001, and 01's P1 to P6, and writes a line for each:
+//
+//     NAME accepted COMMAND port PORT options OPTIONS source ID written same
+//     NAME refused NUMBER place PLACE
+//
+// Numbers are decimal. ID is 32 hexadecimal digits, or `-` where the message has no Source ID. The last word is `same` where writing the
+// record gives the message's bytes back, and `other` where not. The file `stdout` beside src/ was derived by hand from the documents.
+use message::accessors;
+use message::reader;
+use message::reader::Answer;
+use message::record::Message;
+use message::writer;
+use message::writer::Written;
+use wire::status;
+
+const OUT: i32 = libc::STDOUT_FILENO;
+
+fn text(bytes: &[u8]) {
+    io::write_all(OUT, bytes);
+}
+
+fn number(n: u64) {
+    io::print_decimal(OUT, n);
+}
+
+fn byte(b: u8) {
+    io::print_hex(OUT, b as u64, 2);
+}
+
+fn source(bytes: &[u8], message: Message) {
+    let id = accessors::source_id(bytes, message);
+    if id.present {
+        let digits = id.bytes;
+        let mut k = 0;
+        while k < 16 {
+            byte(digits[k]);
+            k += 1;
+        }
+    } else {
+        text(b"-");
+    }
+}
+
+// Whether the first n bytes of `out` are `bytes`.
+fn begins(out: &[u8], n: usize, bytes: &[u8]) -> bool {
+    if out.len() < n {
+        return false;
+    }
+    check::same(&out[..n], bytes)
+}
+
+// Whether writing the record gives the bytes back.
+fn writes_back(bytes: &[u8], message: Message) -> bool {
+    let mut out = [0u8; 128];
+    match writer::write(bytes, message, &mut out) {
+        Written::Wrote(n) => begins(&out, n, bytes),
+        Written::Refused {
+            status: _,
+            place: _,
+        } => false,
+    }
+}
+
+fn accepted(bytes: &[u8], message: Message) {
+    text(b" accepted ");
+    number(message.command as u64);
+    text(b" port ");
+    number(accessors::rtsp_port(bytes, message) as u64);
+    text(b" options ");
+    number(accessors::security_options(bytes, message) as u64);
+    text(b" source ");
+    source(bytes, message);
+    if writes_back(bytes, message) {
+        text(b" written same\n");
+    } else {
+        text(b" written other\n");
+    }
+}
+
+// A message under its name, in one line.
+fn show(name: &[u8], bytes: &[u8]) {
+    text(name);
+    match reader::read(bytes) {
+        Answer::Accepted(message) => accepted(bytes, message),
+        Answer::Refused { status, place } => {
+            text(b" refused ");
+            number(status::number(status) as u64);
+            text(b" place ");
+            number(place as u64);
+            text(b"\n");
+        }
+    }
+}
+
+fn main() {
+    // 4.2 and 4.3 print the same bytes in both documents: Source Ready and Stop Projection.
+    let source_ready = b"\x00\x3d\x01\x01\
+          \x00\x00\x1e\
+          \x44\x00\x75\x00\x6d\x00\x6d\x00\x79\x00\x31\x00\x2d\x00\x4b\x00\
+          \x61\x00\x62\x00\x79\x00\x6c\x00\x61\x00\x6b\x00\x65\x00\
+          \x02\x00\x02\x1c\x44\
+          \x03\x00\x10\
+          \x91\xf4\xab\xe9\xef\xf5\x46\x4a\xae\xe2\x69\x72\x2a\xed\x11\xb5";
+    let stop_projection = b"\x00\x38\x01\x02\
+          \x00\x00\x1e\
+          \x44\x00\x75\x00\x6d\x00\x6d\x00\x79\x00\x31\x00\x2d\x00\x4b\x00\
+          \x61\x00\x62\x00\x79\x00\x6c\x00\x61\x00\x6b\x00\x65\x00\
+          \x03\x00\x10\
+          \x91\xf4\xab\xe9\xef\xf5\x46\x4a\xae\xe2\x69\x72\x2a\xed\x11\xb5";
+    show(b"000-4.2", source_ready);
+    show(b"000-4.3", stop_projection);
+    show(b"001-4.2", source_ready);
+    show(b"001-4.3", stop_projection);
+    // 4.4 prints neither sizes nor a payload: here with a payload of one byte, 16.
+    show(
+        b"001-4.4-payload-16",
+        b"\x00\x08\x01\x03\
+          \x04\x00\x01\x16",
+    );
+    // Session Request: as printed, with Size 003A over 60 bytes, and with Size 003C.
+    show(
+        b"001-4.5-printed",
+        b"\x00\x3a\x01\x04\
+          \x05\x00\x01\x03\
+          \x00\x00\x1e\
+          \x44\x00\x75\x00\x6d\x00\x6d\x00\x79\x00\x31\x00\x2d\x00\x4b\x00\
+          \x61\x00\x62\x00\x79\x00\x6c\x00\x61\x00\x6b\x00\x65\x00\
+          \x03\x00\x10\
+          \x91\xf4\xab\xe9\xef\xf5\x46\x4a\xae\xe2\x69\x72\x2a\xed\x11\xb5",
+    );
+    show(
+        b"001-4.5-size-003C",
+        b"\x00\x3c\x01\x04\
+          \x05\x00\x01\x03\
+          \x00\x00\x1e\
+          \x44\x00\x75\x00\x6d\x00\x6d\x00\x79\x00\x31\x00\x2d\x00\x4b\x00\
+          \x61\x00\x62\x00\x79\x00\x6c\x00\x61\x00\x6b\x00\x65\x00\
+          \x03\x00\x10\
+          \x91\xf4\xab\xe9\xef\xf5\x46\x4a\xae\xe2\x69\x72\x2a\xed\x11\xb5",
+    );
+    // PIN Challenge
+    show(
+        b"001-4.6",
+        b"\x00\x3a\x01\x05\
+          \x06\x00\x20\
+          \x60\x54\x09\xf8\x32\x30\x8a\xd0\xb8\x93\xa7\xf9\x1b\xe4\x2b\x26\
+          \x4c\x73\x72\xb3\x6e\x90\x77\x50\x6e\x1b\x4c\xc1\x83\xde\x79\xda\
+          \x03\x00\x10\
+          \x91\xf4\xab\xe9\xef\xf5\x46\x4a\xae\xe2\x69\x72\x2a\xed\x11\xb5",
+    );
+    // PIN Response, without the Source ID that 2.2.6 lists
+    show(
+        b"001-4.7",
+        b"\x00\x2b\x01\x06\
+          \x06\x00\x20\
+          \x18\xd8\xd8\xaf\xdb\xd0\xd0\x2b\x0c\x0d\x5d\x27\xed\x05\x8f\x8d\
+          \xf3\xaf\xd8\x60\xa4\x5e\xf1\x37\xed\x25\x79\x15\xa8\xbb\x2d\xf7\
+          \x07\x00\x01\x00",
+    );
+    // 01, "Proved table of small examples"
+    show(
+        b"P1",
+        b"\x00\x21\x01\x01\
+          \x00\x00\x02\x41\x00\
+          \x02\x00\x02\x1c\x44\
+          \x03\x00\x10\x07\x07\x07\x07\x07\x07\x07\x07\x07\x07\x07\x07\x07\x07\x07\x07",
+    );
+    show(
+        b"P2",
+        b"\x00\x22\x01\x01\
+          \x00\x00\x02\x41\x00\
+          \x02\x00\x02\x1c\x44\
+          \x03\x00\x10\x07\x07\x07\x07\x07\x07\x07\x07\x07\x07\x07\x07\x07\x07\x07\x07",
+    );
+    show(
+        b"P3",
+        b"\x00\x21\x01\x01\
+          \x00\x00\x02\x41\x00\
+          \x02\x00\x02\x1c\x44\
+          \x03\x00\x10\x07\x07\x07\x07\x07\x07\x07\x07\x07\x07\x07\x07\x07\x07\x07\x07\
+          \x00",
+    );
+    show(b"P4", b"");
+    show(b"P5", b"\x00\x03\x01\x01");
+    show(
+        b"P6",
+        b"\x00\x1c\x01\x01\
+          \x00\x00\x02\x41\x00\
+          \x03\x00\x10\x07\x07\x07\x07\x07\x07\x07\x07\x07\x07\x07\x07\x07\x07\x07\x07",
+    );
+}
