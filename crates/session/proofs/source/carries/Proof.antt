@@ -1,0 +1,20 @@
+-- The three tests of `carried`. Assumes nothing.
+use borrow.Author.Tests.{not-true, not-false, lt-leb, le-leb}
+use Rattle.session.specs.Source.{carried}
+use Rattle.session.proofs.source.carries.Statement.{statement}
+use Rattle.session.proofs.source.carries.Tie as tie
+
+returns : tie.Need-returns
+unfolding carried
+returns c = simp (not-true (c .before .before .args .source .present) (c .if1 .taken))
+
+returns-2 : tie.Need-returns-2
+unfolding carried
+returns-2 c = simp (not-false (c .before .before .before .args .source .present) (c .before .if1 .left), lt-leb 1 _ (c .if2 .taken))
+
+returns-3 : tie.Need-returns-3
+unfolding carried
+returns-3 c = simp (not-false (c .before .before .before .args .source .present) (c .before .if1 .left), le-leb 1 _ (c .if2 .left))
+
+pub carries-spec : {M : Type 1} → statement M
+carries-spec = tie.close (tie.spec returns returns-2 returns-3)

@@ -1,0 +1,23 @@
+-- The session record (01, "Sink session"). Assumes nothing.
+use mathlib.Core.Bool.{Bool, true, false}
+use lib.ListN.{replicate}
+use Rattle.message.specs.declared.accessors.SourceId.{SourceId}
+use Rattle.session.specs.declared.record.State.{State}
+use Rattle.session.specs.declared.record.State.the-variants as state
+use Rattle.session.specs.declared.record.Session.{Session}
+
+abbrev pub noSource : SourceId
+noSource = record { present = false; bytes = replicate 16 0 }
+
+-- the session of a new connection
+abbrev pub freshSession : Session
+freshSession = record { state = state.Waiting; options = 0; source = noSource }
+
+-- every state but Closed is open
+abbrev pub isOpen : State → Bool
+isOpen state.Waiting = true
+isOpen state.Handshake = true
+isOpen state.PinWait = true
+isOpen state.ReadyWait = true
+isOpen state.Projecting = true
+isOpen state.Closed = false

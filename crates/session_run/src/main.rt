@@ -1,0 +1,141 @@
+// Steps a session in every combination of: its state, an event number from 0 to 11, whether a Source ID is kept, which one the event carries
+// (none, the kept one, another), the kept options (without and with the PIN option) and the options that the event brings. A line each:
+//     STATE EVENT KEPT CARRIED OPTIONS BROUGHT: STATUS CHECK STATE OPTIONS FIRST-BYTE-OF-KEPT-ID-OR-0
+
+use libc::STDOUT_FILENO;
+use message::accessors::SourceId;
+use session::record::Session;
+use session::record::State;
+use session::step;
+use session::step::Stepped;
+use wire::status;
+
+fn print(text: &[u8]) {
+    io::write_all(STDOUT_FILENO, text);
+}
+
+// A space and n.
+fn print_number(n: u64) {
+    print(b" ");
+    io::print_decimal(STDOUT_FILENO, n);
+}
+
+fn flag(b: bool) -> u64 {
+    if b { 1 } else { 0 }
+}
+
+fn print_state(state: State) {
+    match state {
+        State::Waiting => print(b"Waiting"),
+        State::Handshake => print(b"Handshake"),
+        State::PinWait => print(b"PinWait"),
+        State::ReadyWait => print(b"ReadyWait"),
+        State::Projecting => print(b"Projecting"),
+        State::Closed => print(b"Closed"),
+    }
+}
+
+fn source(present: bool, byte: u8) -> SourceId {
+    SourceId {
+        present,
+        bytes: [byte; 16],
+    }
+}
+
+// The first byte of a Source ID, or 0 where there is none.
+fn first_byte(source: SourceId) -> u64 {
+    if source.present {
+        let bytes = source.bytes;
+        return bytes[0] as u64;
+    }
+    0
+}
+
+fn print_session(session: Session) {
+    let state = session.state;
+    print(b" ");
+    print_state(state);
+    print_number(session.options as u64);
+    let kept = session.source;
+    print_number(first_byte(kept));
+}
+
+fn print_stepped(after: Stepped) {
+    let answer = after.answer;
+    let status = answer.status;
+    print_number(status::number(status) as u64);
+    print_number(flag(answer.check));
+    let session = after.session;
+    print_session(session);
+}
+
+// The Source ID that the event carries: 0 none, 1 the kept one, 2 another.
+fn carried(which: u8) -> SourceId {
+    match which {
+        0 => source(false, 0),
+        1 => source(true, 7),
+        _ => source(true, 8),
+    }
+}
+
+fn line(state: State, event: u8, kept: bool, which: u8, options: u8, brought: u8) {
+    let session = Session {
+        state,
+        options,
+        source: source(kept, 7),
+    };
+    print_state(state);
+    print_number(event as u64);
+    print_number(flag(kept));
+    print_number(which as u64);
+    print_number(options as u64);
+    print_number(brought as u64);
+    print(b":");
+    print_stepped(step::step(session, event, carried(which), brought));
+    print(b"\n");
+}
+
+fn brought_lines(state: State, event: u8, kept: bool, which: u8, options: u8) {
+    line(state, event, kept, which, options, 0);
+    line(state, event, kept, which, options, 3);
+}
+
+fn options_lines(state: State, event: u8, kept: bool, which: u8) {
+    brought_lines(state, event, kept, which, 0);
+    brought_lines(state, event, kept, which, 2);
+}
+
+fn source_lines(state: State, event: u8, kept: bool) {
+    options_lines(state, event, kept, 0);
+    options_lines(state, event, kept, 1);
+    options_lines(state, event, kept, 2);
+}
+
+fn event_lines(state: State, event: u8) {
+    source_lines(state, event, false);
+    source_lines(state, event, true);
+}
+
+fn state_lines(state: State) {
+    event_lines(state, 0);
+    event_lines(state, 1);
+    event_lines(state, 2);
+    event_lines(state, 3);
+    event_lines(state, 4);
+    event_lines(state, 5);
+    event_lines(state, 6);
+    event_lines(state, 7);
+    event_lines(state, 8);
+    event_lines(state, 9);
+    event_lines(state, 10);
+    event_lines(state, 11);
+}
+
+fn main() {
+    state_lines(State::Waiting);
+    state_lines(State::Handshake);
+    state_lines(State::PinWait);
+    state_lines(State::ReadyWait);
+    state_lines(State::Projecting);
+    state_lines(State::Closed);
+}
