@@ -4,6 +4,7 @@
 //! `expected --check CRATES` compares each with the file `stdout` of that crate below the folder
 //! `CRATES`, one line a crate; the exit status is 1 where one differs.
 
+mod cursor;
 mod limits;
 mod messages;
 mod session;
@@ -14,11 +15,12 @@ use std::process::ExitCode;
 use std::{env, fs};
 
 /// The program crates by name, each with what it must print.
-const PROGRAMS: [(&str, fn() -> String); 4] = [
+const PROGRAMS: [(&str, fn() -> String); 5] = [
     ("wire_run", wire::lines),
     ("message_run", messages::lines),
     ("session_run", session::lines),
     ("limits_run", limits::lines),
+    ("cursor_run", cursor::lines),
 ];
 
 fn main() -> ExitCode {

@@ -1,0 +1,147 @@
+-- Laws of fragments: check 9 case by case, and what holds of an accepted packet. Assumes nothing.
+use Prim.Native.Nat.{ℕ, _+_, _-_, _≤_, _<_}
+use mathlib.Core.Path.{_≡_, refl, sym, ap, _∙_}
+use mathlib.Core.Bool.{Bool, true, false, cond, false≢true}
+use mathlib.Core.List.{List, [], _∷_}
+use native.Mathlib.Omega.{arith}
+use native.Mathlib.Decide.{decLt}
+use borrow.Author.Tests.{lt-ltb, le-ltb, ltb-false, leb-false}
+use lib.Dec.{ltb, T}
+use lib.IntN.{ℤ, pos, negsuc, natAbs}
+use lib.ListN.{length}
+use lib.Signed.{leZ, nonNeg}
+use mir.Syntax.{w32, w64}
+use mir.Val.{Fits, SFits}
+use mir.ValLaws.{ofZ-fits}
+use Rattle.wire.specs.Number.{number}
+use Rattle.wire.specs.declared.status.Status.{Status}
+use Rattle.wire.specs.declared.status.Status.the-variants as status
+use Rattle.packet.specs.declared.fragment.Fragment.{Fragment}
+use Rattle.packet.specs.declared.fragment.FragmentAnswer.the-variants.{Accepted, Refused}
+use Rattle.packet.specs.Checks.{refuse, firstOf, accepted, refusing}
+use Rattle.packet.specs.Frame.{frameChecks}
+use Rattle.packet.specs.Fragment.{isStart, headerOf, imageData, offsetOf, outside, placeOf, fragmentFrame, fragmentChecks, startFragment, continuationFragment, fragmentOf, fragmentStatus, dataOf, readFragment, OffsetKept, DataInside}
+use Rattle.packet.proofs.Laws.Checks.{first-append}
+
+-- more data than the total
+pub outside-large : (z : ℤ) (n t : ℕ) → t < n → outside z n t ≡ true
+unfolding outside
+outside-large (pos o) n t h = lt-ltb t (o + n) (omega arith)
+outside-large (negsuc k) n t h = refl
+
+pub outside-negative : (z : ℤ) (n t : ℕ) → leZ (pos 0) z ≡ false → outside z n t ≡ true
+unfolding outside
+outside-negative (pos o) n t e = absurd (let no : ⊥ = omega (arith, leb-false 0 o e) in no)
+outside-negative (negsuc k) n t e = refl
+
+pub outside-beyond : (z : ℤ) (n t : ℕ) → leZ (pos 0) z ≡ true → n ≤ t → ltb (t - n) (natAbs z) ≡ outside z n t
+unfolding outside
+outside-beyond (pos o) n t e h =
+    elim (decLt (t - n) o) [
+      | yes l ↦ lt-ltb (t - n) o l ∙ sym (lt-ltb t (o + n) (omega arith))
+      | no l ↦ le-ltb (t - n) o (omega arith) ∙ sym (le-ltb t (o + n) (omega arith))
+    ]
+outside-beyond (negsuc k) n t e h = let bad : _≡_ {A = ℕ} 0 1 = cc in absurd (let no : ⊥ = omega arith in no)
+
+pub place-is : (z : ℤ) → leZ (pos 0) z ≡ true → natAbs z ≡ placeOf z
+unfolding placeOf
+place-is (pos o) e = refl
+place-is (negsuc k) e = let bad : _≡_ {A = ℕ} 0 1 = cc in absurd (let no : ⊥ = omega arith in no)
+
+pub place-none : (z : ℤ) → leZ (pos 0) z ≡ false → 0 ≡ placeOf z
+unfolding placeOf
+place-none (pos o) e = absurd (let no : ⊥ = omega (arith, leb-false 0 o e) in no)
+place-none (negsuc k) e = refl
+
+pub not-negative : (z : ℤ) → SFits w32 z → leZ (pos 0) z ≡ true → T (nonNeg z) × (Fits w32 (natAbs z) × Fits w64 (natAbs z))
+not-negative (pos k) f e = let g = ofZ-fits w32 (pos k) f in (tt, (g, record { fits = omega (arith, g .fits) }))
+not-negative (negsuc k) f e = let bad : _≡_ {A = ℕ} 0 1 = cc in absurd (let no : ⊥ = omega arith in no)
+
+-- the checks on the frame, then 9
+module _ (starts : Bool) (p : List ℕ) where
+  abbrev pub isOutside : Bool
+  isOutside = outside (offsetOf starts p) (length (imageData starts p)) (number 4 p 15)
+
+  frame-refuses : refusing (fragmentFrame starts p) ≡ true
+  unfolding refusing fragmentFrame frameChecks
+  frame-refuses = refl
+
+  pub checks-refuse : refusing (fragmentChecks starts p) ≡ true
+  unfolding refusing fragmentChecks fragmentFrame frameChecks
+  checks-refuse = refl
+
+  pub checks-are
+      : firstOf (fragmentChecks starts p)
+      ≡ cond (accepted (firstOf (fragmentFrame starts p))) (cond isOutside status.OutsideImage status.Accepted) (firstOf (fragmentFrame starts p))
+  unfolding fragmentChecks firstOf
+  checks-are = first-append (fragmentFrame starts p) (refuse status.OutsideImage isOutside ∷ []) frame-refuses
+
+-- an accepted packet passed check 9
+passed : (s : Status) (b : Bool) → accepted (cond (accepted s) (cond b status.OutsideImage status.Accepted) s) ≡ true → b ≡ false
+passed s b h = go (accepted s) refl b h
+  where
+    go : (a : Bool) → accepted s ≡ a → (b : Bool) → accepted (cond a (cond b status.OutsideImage status.Accepted) s) ≡ true → b ≡ false
+    go true e true k = absurd (false≢true k)
+    go true e false k = refl
+    go false e b k = absurd (false≢true (sym e ∙ k))
+
+is-place : (z : ℤ) (n t : ℕ) → outside z n t ≡ false → (z ≡ pos (placeOf z)) × (placeOf z + n ≤ t)
+unfolding outside placeOf
+is-place (pos o) n t e = (refl, ltb-false t (o + n) e)
+is-place (negsuc k) n t e = absurd (false≢true (sym e))
+
+offset-is : (p : List ℕ) (b : Bool) → isStart p ≡ b → fragmentOf p .offset ≡ placeOf (offsetOf (isStart p) p)
+unfolding fragmentOf startFragment continuationFragment offsetOf placeOf
+offset-is p true e = simp e
+offset-is p false e = simp e
+
+total-is : (p : List ℕ) (b : Bool) → isStart p ≡ b → fragmentOf p .total ≡ number 4 p 15
+unfolding fragmentOf startFragment continuationFragment
+total-is p true e = simp e
+total-is p false e = simp e
+
+module _ (p : List ℕ) (h : accepted (fragmentStatus p) ≡ true) where
+  nine : (offsetOf (isStart p) p ≡ pos (placeOf (offsetOf (isStart p) p))) × (placeOf (offsetOf (isStart p) p) + length (dataOf p) ≤ number 4 p 15)
+  nine = is-place (offsetOf (isStart p) p) (length (dataOf p)) (number 4 p 15)
+      (passed (firstOf (fragmentFrame (isStart p) p)) (isOutside (isStart p) p) (ap accepted (sym (checks-are (isStart p) p)) ∙ h))
+
+pub offset-kept : OffsetKept
+unfolding OffsetKept
+offset-kept p h = rw (offset-is p (isStart p) refl) (nine p h .0)
+
+pub data-inside : DataInside
+unfolding DataInside
+data-inside p h = rw (offset-is p (isStart p) refl, total-is p (isStart p) refl) (nine p h .1)
+
+pub header-small : (starts : Bool) → headerOf starts ≤ 18
+unfolding headerOf
+header-small true = omega arith
+header-small false = omega arith
+
+-- what follows from an answer
+module _ (x : Fragment) (t : Status) where
+  refused : (b : Bool) (s : Status) (k : ℕ) → cond b (Accepted x) (Refused t 0) ≡ Refused s k → (b ≡ false) × (t ≡ s) × (k ≡ 0)
+  refused true s k e = let bad : _≡_ {A = ℕ} 0 1 = cc in absurd (let no : ⊥ = omega arith in no)
+  refused false s k e = (refl, cc, cc)
+
+  accepted-as : (b : Bool) (y : Fragment) → cond b (Accepted x) (Refused t 0) ≡ Accepted y → (b ≡ true) × (x ≡ y)
+  accepted-as true y e = (refl, cc)
+  accepted-as false y e = let bad : _≡_ {A = ℕ} 0 1 = cc in absurd (let no : ⊥ = omega arith in no)
+
+pub read-refused
+    : (p : List ℕ) (s : Status) (k : ℕ) → readFragment p ≡ Refused s k
+    → (accepted (fragmentStatus p) ≡ false) × (fragmentStatus p ≡ s) × (k ≡ 0)
+unfolding readFragment
+read-refused p s k e = refused (fragmentOf p) (fragmentStatus p) (accepted (fragmentStatus p)) s k e
+
+pub read-accepted : (p : List ℕ) (y : Fragment) → readFragment p ≡ Accepted y → (accepted (fragmentStatus p) ≡ true) × (fragmentOf p ≡ y)
+unfolding readFragment
+read-accepted p y e = accepted-as (fragmentOf p) (fragmentStatus p) (accepted (fragmentStatus p)) y e
+
+starts-case : (p : List ℕ) (b : Bool) → isStart p ≡ b → fragmentOf p .starts ≡ isStart p
+unfolding fragmentOf startFragment continuationFragment
+starts-case p true e = simp e
+starts-case p false e = simp e
+
+pub starts-is : (p : List ℕ) → fragmentOf p .starts ≡ isStart p
+starts-is p = starts-case p (isStart p) refl

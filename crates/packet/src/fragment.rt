@@ -1,0 +1,242 @@
+// Fragments of an image: starts, type 2, and continuations, type 3 (003 section 2.2.3).
+//
+//   start                                  continuation
+//   place  bytes                           place  bytes
+//      15      4  TotalImageDataSize          15      4  TotalImageDataSize
+//      19      2  CursorImageId               19      2  CursorImageId
+//      21      2  XPos, signed                21      4  PacketPayloadOffset, signed
+//      23      2  YPos, signed                25         ImageData
+//      25      1  CursorImageType
+//      26      2  HotSpotXPos
+//      28      2  HotSpotYPos
+//      30         ImageData, at offset 0
+ghost use mathlib.Core.Path.{_≡_};
+ghost use Rattle.packet.specs.Checks.{firstOf};
+ghost use Rattle.packet.specs.Fragment.{headerOf, imageData, outside, offsetOf, placeOf, taken, fragmentFrame, fragmentChecks, noStart, startOf, continuationOf, startFragment, continuationFragment, readFragment};
+use super::frame;
+use super::rtp;
+use super::rtp::Rtp;
+use wire::number;
+use wire::signed;
+use wire::status;
+use wire::status::Status;
+
+// The fields that only a start has, but for the position.
+pub struct Start {
+    pub image_type: u8,
+    pub hot_x: u16,
+    pub hot_y: u16,
+}
+
+impl Start {
+    pub const TYPE: u8 = 2;
+    // The least PacketMsgSize: all but the data.
+    pub const HEADER: usize = 18;
+}
+
+// The field that only a continuation has.
+pub struct Continuation {
+    pub offset: i32,
+}
+
+impl Continuation {
+    pub const TYPE: u8 = 3;
+    // The least PacketMsgSize: all but the data.
+    pub const HEADER: usize = 13;
+}
+
+// A start or a continuation, but for its data. A start stands at offset 0; a continuation has position 0, 0 and start fields 0.
+pub struct Fragment {
+    pub sequence: u16,
+    pub total: u32,
+    pub id: u16,
+    pub offset: u32,
+    pub starts: bool,
+    pub x: i16,
+    pub y: i16,
+    pub start: Start,
+}
+
+pub enum FragmentAnswer {
+    Accepted(Fragment),
+    Refused { status: Status, place: usize },
+}
+
+impl Start {
+    // The start fields where no start was seen.
+    pub fn none() -> Start
+        ensures { λ r. ⌜ r ≡ noStart ⌝ }
+    {
+        Start {
+            image_type: 0,
+            hot_x: 0,
+            hot_y: 0,
+        }
+    }
+}
+
+fn header(starts: bool) -> usize
+    ensures { λ r. ⌜ r ≡ headerOf starts ⌝ }
+{
+    if starts {
+        Start::HEADER
+    } else {
+        Continuation::HEADER
+    }
+}
+
+// The image data: what follows the header of a start or of a continuation.
+pub fn image_data(packet: &[u8], starts: bool) -> &[u8]
+    ensures { λ r. ⌜ now r ≡ imageData starts (now (packet .entry)) ⌝ }
+{
+    let from = Rtp::HEADER + header(starts);
+    if from <= packet.len() {
+        &packet[from..]
+    } else {
+        &packet[..0]
+    }
+}
+
+// Whether an offset is negative, or offset plus data goes beyond the total.
+fn is_outside(offset: i32, length: usize, total: u32) -> bool
+    ensures { λ r. ⌜ r ≡ outside offset length total ⌝ }
+{
+    if 0 <= offset {
+        let end = total as usize;
+        if end < length {
+            return true;
+        }
+        return end - length < offset as usize;
+    }
+    true
+}
+
+fn read_start(packet: &[u8]) -> Start
+    ensures { λ r. ⌜ r ≡ startOf (now (packet .entry)) ⌝ }
+{
+    Start {
+        image_type: number::u8_at(packet, 25),
+        hot_x: number::u16_at(packet, 26),
+        hot_y: number::u16_at(packet, 28),
+    }
+}
+
+fn read_continuation(packet: &[u8]) -> Continuation
+    ensures { λ r. ⌜ r ≡ continuationOf (now (packet .entry)) ⌝ }
+{
+    Continuation {
+        offset: signed::signed32(number::u32_at(packet, 21)),
+    }
+}
+
+// The offset: 0 for a start.
+fn offset(packet: &[u8], starts: bool) -> i32
+    ensures { λ r. ⌜ r ≡ offsetOf starts (now (packet .entry)) ⌝ }
+{
+    if starts {
+        return 0;
+    }
+    let own = read_continuation(packet);
+    own.offset
+}
+
+// The place that an offset names; 0 for a negative one, which check 9 refuses.
+fn place_of(offset: i32) -> u32
+    ensures { λ r. ⌜ r ≡ placeOf offset ⌝ }
+{
+    if 0 <= offset {
+        return offset as u32;
+    }
+    0
+}
+
+fn is_taken(kind: u8) -> bool
+    ensures { λ r. ⌜ r ≡ taken kind ⌝ }
+{
+    if kind == Start::TYPE {
+        return true;
+    }
+    kind == Continuation::TYPE
+}
+
+// The checks 1, 3, 4, 2, 1, 2.
+fn check_frame(packet: &[u8], starts: bool) -> Status
+    ensures { λ r. ⌜ r ≡ firstOf (fragmentFrame starts (now (packet .entry))) ⌝ }
+{
+    let taken = is_taken(number::u8_at(packet, 12));
+    let fits = header(starts) <= number::u16_at(packet, 13) as usize;
+    frame::check(packet, taken, fits)
+}
+
+// Those, then 9.
+fn check(packet: &[u8], starts: bool) -> Status
+    ensures { λ r. ⌜ r ≡ firstOf (fragmentChecks starts (now (packet .entry))) ⌝ }
+{
+    let status = check_frame(packet, starts);
+    if status::number(status) != 0 {
+        return status;
+    }
+    let length = image_data(packet, starts).len();
+    if is_outside(offset(packet, starts), length, number::u32_at(packet, 15)) {
+        return Status::OutsideImage;
+    }
+    Status::Accepted
+}
+
+fn start_fields(packet: &[u8]) -> Fragment
+    ensures { λ r. ⌜ r ≡ startFragment (now (packet .entry)) ⌝ }
+{
+    let rtp = rtp::read(packet);
+    let x = signed::signed16(number::u16_at(packet, 21));
+    let y = signed::signed16(number::u16_at(packet, 23));
+    let own = read_start(packet);
+    Fragment {
+        sequence: rtp.sequence,
+        total: number::u32_at(packet, 15),
+        id: number::u16_at(packet, 19),
+        offset: 0,
+        starts: true,
+        x: x,
+        y: y,
+        start: own,
+    }
+}
+
+fn continuation_fields(packet: &[u8]) -> Fragment
+    ensures { λ r. ⌜ r ≡ continuationFragment (now (packet .entry)) ⌝ }
+{
+    let rtp = rtp::read(packet);
+    let own = read_continuation(packet);
+    let none = Start::none();
+    Fragment {
+        sequence: rtp.sequence,
+        total: number::u32_at(packet, 15),
+        id: number::u16_at(packet, 19),
+        offset: place_of(own.offset),
+        starts: false,
+        x: 0,
+        y: 0,
+        start: none,
+    }
+}
+
+// The start or continuation, or the first refusal in 01's order: fewer than 15 bytes 1; RTP 3; another type 4; PacketMsgSize below the header 2;
+// too few bytes 1; too many 2; negative offset, or offset plus data beyond the total, 9.
+pub fn read(packet: &[u8]) -> FragmentAnswer
+    ensures { λ r. ⌜ r ≡ readFragment (now (packet .entry)) ⌝ }
+{
+    let starts = number::u8_at(packet, 12) == Start::TYPE;
+    let status = check(packet, starts);
+    if status::number(status) == 0 {
+        if starts {
+            FragmentAnswer::Accepted(start_fields(packet))
+        } else {
+            FragmentAnswer::Accepted(continuation_fields(packet))
+        }
+    } else {
+        FragmentAnswer::Refused {
+            status: status,
+            place: 0,
+        }
+    }
+}

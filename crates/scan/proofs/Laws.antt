@@ -1,0 +1,5 @@
+pub mod Below
+pub mod Bytes
+pub mod Conflict
+pub mod Empty
+pub mod Order

@@ -1,0 +1,56 @@
+-- Laws of `someBelow`: what it says of each number, and a step of a loop that computes it. Assumes nothing.
+use Prim.Native.Nat.{ℕ, zero, suc, _+_, _-_, _≤_, _<_}
+use mathlib.Core.Path.{_≡_, refl, subst}
+use mathlib.Core.Logic.{_⊎_, inl, inr, ⊎-elim}
+use mathlib.Core.Bool.{Bool, true, false, not, _||_}
+use lib.Dec.{eqb}
+use native.Mathlib.Omega.{arith}
+use native.Mathlib.Decide.{decLt}
+use native.Mathlib.Numerals.{add-one}
+use Rattle.scan.specs.Below.{someBelow}
+use Rattle.scan.specs.Order.{lesser, greater}
+use Rattle.scan.proofs.Laws.Order.{greater-set, lesser-zero}
+
+some-more : (k : ℕ) (p : ℕ → Bool) → someBelow (k + 1) p ≡ (p k || someBelow k p)
+unfolding someBelow
+some-more k p = rw add-one
+
+below-split : (n k : ℕ) → k < suc n → (k < n) ⊎ (k ≡ n)
+below-split n k h = elim (decLt k n) [ yes p ↦ inl p | no q ↦ inr (omega arith) ]
+
+-- where p holds of none below n, it is false of each
+pub none-below : (n : ℕ) (p : ℕ → Bool) → someBelow n p ≡ false → (k : ℕ) → k < n → p k ≡ false
+unfolding someBelow
+none-below zero p e k l = absurd (let z : ⊥ = omega arith in z)
+none-below (suc n) p e k l = go (p n) refl e (λ r h. none-below n p r k h)
+  where
+    go : (b : Bool) → p n ≡ b → (b || someBelow n p) ≡ false → (someBelow n p ≡ false → k < n → p k ≡ false) → p k ≡ false
+    go true q r f = cc
+    go false q r f = ⊎-elim (λ h. f r h) (λ h. rw h q) (below-split n k l)
+
+pub below-none : (n : ℕ) (p : ℕ → Bool) → ((k : ℕ) → k < n → p k ≡ false) → someBelow n p ≡ false
+unfolding someBelow
+below-none zero p h = refl
+below-none (suc n) p h = simp (h n (omega arith)) (below-none n p (λ k l. h k (omega arith)))
+
+-- a step of a loop that keeps the greatest, and of one that keeps the least
+pub greater-step
+    : (k : ℕ) (p : ℕ → Bool) (high m r : ℕ) → not (eqb high 0) ≡ someBelow k p → r ≡ greater high m → not (eqb m 0) ≡ p k
+    → not (eqb r 0) ≡ someBelow (k + 1) p
+greater-step k p high m r e f g = rw (f, greater-set, e, g, some-more)
+
+pub lesser-step
+    : (k : ℕ) (p : ℕ → Bool) (low m r : ℕ) → eqb low 0 ≡ someBelow k p → r ≡ lesser low m → eqb m 0 ≡ p k → eqb r 0 ≡ someBelow (k + 1) p
+lesser-step k p low m r e f g = rw (f, lesser-zero, e, g, some-more)
+
+-- a block more
+pub block-more
+    : (p : ℕ → Bool) (from k size : ℕ) → ((j : ℕ) → from ≤ j → j < k → p j ≡ false) → someBelow size (λ j. p (k + j)) ≡ false
+    → (j : ℕ) → from ≤ j → j < k + size → p j ≡ false
+block-more p from k size h e j a b =
+    elim (decLt j k) [
+      | yes l ↦ h j a l
+      | no l ↦
+          let m : k + (j - k) ≡ j = omega arith in
+          subst (λ (i : ℕ). p i ≡ false) m (none-below size (λ i. p (k + i)) e (j - k) (omega arith))
+    ]

@@ -1,0 +1,80 @@
+-- The greatest clash passed is not 0 exactly if there was one. Assumes nothing.
+use Prim.Native.Nat.{_-_, _≤_}
+use mathlib.Core.Path.{_≡_, refl, _∙_}
+use mathlib.Core.Bool.{not}
+use native.Mathlib.Omega.{arith}
+use lib.ListN.{getD}
+use lib.Dec.{eqb}
+use borrow.Author.Needs.{needs}
+use denote.Ref.{now}
+use Rattle.scan.specs.Below.{someBelow}
+use Rattle.scan.specs.Conflict.{clashAt}
+use Rattle.scan.proofs.Laws.Below.{greater-step}
+use Rattle.scan.proofs.Laws.Conflict.{lesser-clash}
+use Rattle.scan.proofs.conflict.differing.Statement.{statement}
+use Rattle.scan.proofs.conflict.differing.Tie as tie
+
+abbrev Inv-loop : tie.InvT-loop
+Inv-loop marks old new n high₀ k₀ high k = (k ≤ n) × (not (eqb high 0) ≡ someBelow k (clashAt marks old new))
+
+abbrev μ-loop : tie.MeasureT-loop
+μ-loop marks old new n high₀ k₀ high k = n - k
+
+loop-holds : tie.Need-loop-holds Inv-loop μ-loop
+unfolding someBelow
+loop-holds c = (omega arith, refl)
+
+shared-slice-read-least : tie.Need-shared-slice-read-least Inv-loop μ-loop
+shared-slice-read-least c = omega arith
+
+shared-slice-read-least-2 : tie.Need-shared-slice-read-least-2 Inv-loop μ-loop
+shared-slice-read-least-2 c = omega arith
+
+shared-slice-read-least-3 : tie.Need-shared-slice-read-least-3 Inv-loop μ-loop
+shared-slice-read-least-3 c = omega arith
+
+least-requires : tie.Need-least-requires Inv-loop μ-loop
+least-requires c κs = search needs
+
+most-requires : tie.Need-most-requires Inv-loop μ-loop
+most-requires c κs = search needs
+
+add-k : tie.Need-add-k Inv-loop μ-loop
+add-k c = omega arith
+
+loop-less : tie.Need-loop-less Inv-loop μ-loop
+loop-less c = omega arith
+
+loop-again : tie.Need-loop-again Inv-loop μ-loop
+loop-again c =
+    let f = c .before in
+    let h = f .before .before .before .before in
+    let l = h .before .loop in
+    let a = h .before .before .before .before .before .args in
+    let k = l .k in
+    let g : not (eqb (f .least .result) 0) ≡ clashAt (now (a .marks)) (now (a .old)) (now (a .new)) k
+    = rw (f .least .ensures) (lesser-clash (getD (now (a .marks)) k 0) (getD (now (a .old)) k 0) (getD (now (a .new)) k 0)) in
+    (omega arith, greater-step k (clashAt (now (a .marks)) (now (a .old)) (now (a .new))) (l .high) (f .least .result) (c .most .result) (l .inv .1) (c .most .ensures) g)
+
+returns : tie.Need-returns Inv-loop μ-loop
+returns c =
+    let l = c .before .loop in
+    let e : l .k ≡ c .before .before .before .before .before .args .n = omega arith in
+    l .inv .1 ∙ rw e
+
+pub differing-spec : {M : Type 1} → statement M
+differing-spec =
+    tie.close
+    (tie.spec
+    Inv-loop
+    μ-loop
+    loop-holds
+    shared-slice-read-least
+    shared-slice-read-least-2
+    shared-slice-read-least-3
+    least-requires
+    most-requires
+    add-k
+    loop-less
+    loop-again
+    returns)

@@ -1,0 +1,52 @@
+-- No longer than any of the three; where no mark is set there is no conflict. Assumes nothing.
+use mathlib.Core.Path.{_≡_, sym, _∙_}
+use Prim.Native.Nat.{ℕ, _≤_}
+use native.Mathlib.Omega.{arith}
+use denote.Ref.{now}
+use borrow.Author.Needs.{needs}
+use Rattle.scan.specs.Conflict.{conflictIn}
+use Rattle.scan.specs.Order.{lesser}
+use Rattle.scan.proofs.Laws.Conflict.{no-clash}
+use Rattle.scan.proofs.Laws.Order.{lesser-le}
+use Rattle.scan.proofs.conflict.found.Statement.{statement}
+use Rattle.scan.proofs.conflict.found.Tie as tie
+
+common : (a b d m n : ℕ) → m ≡ lesser b d → n ≡ lesser a m → (n ≤ a) × (n ≤ b) × (n ≤ d)
+common a b d m n e f =
+    let p = lesser-le a m in
+    let q = lesser-le b d in
+    (omega arith, omega arith, omega arith)
+
+least-length-requires : tie.Need-least-length-requires
+least-length-requires c κs = search needs
+
+least-length-requires-2 : tie.Need-least-length-requires-2
+least-length-requires-2 c κs = search needs
+
+touched-requires : tie.Need-touched-requires
+touched-requires c κs = common _ _ _ _ _ (c .before .least-length .ensures) (c .least-length2 .ensures) .0
+
+differing-requires : tie.Need-differing-requires
+differing-requires c κs = let n = c .before .before in common _ _ _ _ _ (n .before .least-length .ensures) (n .least-length2 .ensures)
+
+returns : tie.Need-returns
+unfolding conflictIn
+returns c = let n = c .before .before .before in c .differing .ensures ∙ rw (n .least-length2 .ensures, n .before .least-length .ensures)
+
+returns-2 : tie.Need-returns-2
+unfolding conflictIn
+returns-2 c =
+    let n = c .before .before in
+    let a = n .before .before .before .before .before .args in
+    sym (rw (← n .before .least-length .ensures, ← n .least-length2 .ensures) (no-clash (n .least-length2 .result) (now (a .marks)) (now (a .old)) (now (a .new)) (sym (c .before .touched .ensures) ∙ c .if1 .left)))
+
+pub found-spec : {M : Type 1} → statement M
+found-spec =
+    tie.close
+    (tie.spec
+    least-length-requires
+    least-length-requires-2
+    touched-requires
+    differing-requires
+    returns
+    returns-2)

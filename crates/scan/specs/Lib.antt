@@ -1,0 +1,6 @@
+pub mod Below
+pub mod Bytes
+pub mod Conflict
+pub mod Empty
+pub mod Examples
+pub mod Order
