@@ -1,0 +1,67 @@
+-- Laws of judging: an accepted fragment has room; the sequence number matters for another id alone, where it wraps. Assumes nothing.
+use Prim.Native.Nat.{ℕ, _≤_}
+use mathlib.Core.Path.{_≡_, refl}
+use mathlib.Core.Bool.{Bool, true, false, not, cond, _&&_, false≢true}
+use mathlib.Core.List.{List}
+use borrow.Author.Tests.{leb-true}
+use lib.Dec.{leb}
+use lib.ListN.{length}
+use Rattle.wire.specs.declared.status.Status.{Status}
+use Rattle.wire.specs.declared.status.Status.the-variants as status
+use Rattle.packet.specs.Checks.{firstOf, accepted}
+use Rattle.packet.specs.declared.fragment.Fragment.{Fragment}
+use Rattle.packet.proofs.Laws.Checks.{both}
+use Rattle.cursor.specs.declared.picture.Picture.{Picture}
+use Rattle.cursor.specs.Picture.{hasRoom, held}
+use Rattle.cursor.specs.Judging.{ofOpened, opens, startDiffers, judging, withSequence, SequenceIgnored, WrapOpens}
+use Rattle.cursor.proofs.Laws.Pointer.{wrap-newer}
+
+pub room-says : (t b m : ℕ) → hasRoom t b m ≡ true → (t ≤ b) × (t ≤ m)
+unfolding hasRoom
+room-says t b m h =
+    let r = both (leb t b) (leb t m) (both (leb t 262144) (leb t b && leb t m) h .1) in
+    (leb-true t b (r .0), leb-true t m (r .1))
+
+pub held-says : (q : Picture) (b m : ℕ) → held q b m ≡ true → q .opened ≡ true → hasRoom (q .total) b m ≡ true
+unfolding held
+held-says q b m h e = simp e at h
+
+no-room : (b : Bool) (s : Status) → accepted (cond (not b) status.NoRoom s) ≡ true → b ≡ true
+no-room true s h = refl
+no-room false s h = absurd (false≢true h)
+
+pub judged-room
+    : (q : Picture) (f : Fragment) (ds image marks : List ℕ) → accepted (firstOf (judging q f ds image marks)) ≡ true
+    → hasRoom (f .total) (length image) (length marks) ≡ true
+unfolding judging firstOf
+judged-room q f ds image marks h = no-room (hasRoom (f .total) (length image) (length marks)) _ h
+
+module _ (n : ℕ) (q : Picture) (f : Fragment) where
+  pub opened-same : ofOpened q (withSequence n f) ≡ ofOpened q f
+  unfolding ofOpened
+  opened-same = refl
+
+  start-same : startDiffers q (withSequence n f) ≡ startDiffers q f
+  unfolding startDiffers
+  start-same = refl
+
+pub sequence-ignored : SequenceIgnored
+unfolding SequenceIgnored judging firstOf
+sequence-ignored n q f ds image marks h = simp (opened-same n q f, start-same n q f, h)
+
+pub wrap-opens : WrapOpens
+unfolding WrapOpens judging firstOf
+wrap-opens q f ds image marks o e e′ r = let n : opens q f ≡ true = rw (e, e′) (wrap-newer (q .opened)) in simp (r, o, n)
+
+-- the last check refuses, whatever the others do
+not-opened : (a b d : Bool) → accepted (cond a status.NoRoom (cond b status.TotalDiffers (cond d status.Conflict status.NotNewer))) ≡ false
+not-opened true b d = refl
+not-opened false true d = refl
+not-opened false false true = refl
+not-opened false false false = refl
+
+pub judged-late
+    : (q : Picture) (f : Fragment) (ds image marks : List ℕ) → ofOpened q f ≡ false → opens q f ≡ false
+    → accepted (firstOf (judging q f ds image marks)) ≡ false
+unfolding judging firstOf
+judged-late q f ds image marks o n = simp (o, n) (not-opened (not (hasRoom (f .total) (length image) (length marks))) false false)

@@ -1,0 +1,90 @@
+// What the call for starts and continuations makes of a fragment: whether it is stored, or refused with 10, 12, 13 or 11. Nothing is changed here.
+ghost use mathlib.Core.Path.{_≡_};
+ghost use Prim.Native.Nat.{_+_, _≤_};
+ghost use lib.ListN.{length};
+ghost use Rattle.packet.specs.Checks.{firstOf};
+ghost use Rattle.cursor.specs.Judging.{ofOpened, sameStart, startDiffers, bytesDiffer, judging};
+use super::picture;
+use super::picture::Picture;
+use packet::fragment::Fragment;
+use packet::fragment::Start;
+use scan::conflict;
+use wire::sequence;
+use wire::status::Status;
+
+// Whether a picture is opened and the fragment is of its id.
+pub(crate) fn of_opened(picture: Picture, fragment: Fragment) -> bool
+    ensures { λ r. ⌜ r ≡ ofOpened picture fragment ⌝ }
+{
+    if picture.opened {
+        return picture.id == fragment.id;
+    }
+    false
+}
+
+fn same_start(a: Start, b: Start) -> bool
+    ensures { λ r. ⌜ r ≡ sameStart a b ⌝ }
+{
+    if a.image_type == b.image_type {
+        if a.hot_x == b.hot_x {
+            return a.hot_y == b.hot_y;
+        }
+    }
+    false
+}
+
+// Whether the fragment is a second start that differs in its own fields.
+fn start_differs(picture: Picture, fragment: Fragment) -> bool
+    ensures { λ r. ⌜ r ≡ startDiffers picture fragment ⌝ }
+{
+    if fragment.starts {
+        if picture.seen {
+            let old = picture.start;
+            let new = fragment.start;
+            return !same_start(old, new);
+        }
+    }
+    false
+}
+
+// Whether a filled place would get another byte.
+fn bytes_differ(offset: u32, data: &[u8], image: &[u8], marks: &[u8]) -> bool
+    requires { ⌜ (offset + length (now «data») ≤ length (now image)) × (offset + length (now «data») ≤ length (now marks)) ⌝ }
+    ensures { λ r. ⌜ r ≡ bytesDiffer offset (now («data» .entry)) (now (image .entry)) (now (marks .entry)) ⌝ }
+{
+    let at = offset as usize;
+    let end = at + data.len();
+    conflict::found(&marks[at..end], &image[at..end], data)
+}
+
+// The first refusal of the order 10, 12, 13, 11, or Accepted. A fragment of the opened id is judged whatever its sequence number.
+pub(crate) fn judge(
+    picture: Picture,
+    fragment: Fragment,
+    data: &[u8],
+    image: &[u8],
+    marks: &[u8],
+) -> Status
+    requires { ⌜ fragment .offset + length (now «data») ≤ fragment .total ⌝ }
+    ensures { λ r. ⌜ r ≡ firstOf (judging picture fragment (now («data» .entry)) (now (image .entry)) (now (marks .entry))) ⌝ }
+{
+    if !picture::has_room(fragment.total, image.len(), marks.len()) {
+        return Status::NoRoom;
+    }
+    if of_opened(picture, fragment) {
+        if picture.total != fragment.total {
+            return Status::TotalDiffers;
+        }
+        if start_differs(picture, fragment) {
+            return Status::Conflict;
+        }
+        if bytes_differ(fragment.offset, data, image, marks) {
+            return Status::Conflict;
+        }
+        return Status::Accepted;
+    }
+    if sequence::newer(picture.opened, picture.opening, fragment.sequence) {
+        return Status::Accepted;
+    }
+    Status::NotNewer
+}

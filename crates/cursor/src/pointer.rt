@@ -1,0 +1,71 @@
+// The pointer's position, and the call for position packets.
+ghost use mathlib.Core.Path.{_≡_};
+ghost use Rattle.cursor.specs.Pointer.{freshPointer, movedTo, positioned};
+use packet::position;
+use packet::position::PositionAnswer;
+use wire::sequence;
+use wire::status::Status;
+
+// The pointer's last position, and the sequence number of the packet that set it. Where none is known the other fields are not looked at.
+pub struct Pointer {
+    pub known: bool,
+    pub sequence: u16,
+    pub x: i16,
+    pub y: i16,
+}
+
+impl Pointer {
+    // No position is known.
+    pub fn fresh() -> Pointer
+        ensures { λ r. ⌜ r ≡ freshPointer ⌝ }
+    {
+        Pointer {
+            known: false,
+            sequence: 0,
+            x: 0,
+            y: 0,
+        }
+    }
+}
+
+pub enum PointerAnswer {
+    Accepted(Pointer),
+    Refused { status: Status, place: usize },
+}
+
+// The pointer after a packet with this sequence number and position: set if the packet is newer, else as it was.
+pub(crate) fn moved(pointer: Pointer, sequence: u16, x: i16, y: i16) -> Pointer
+    ensures { λ r. ⌜ r ≡ movedTo pointer sequence x y ⌝ }
+{
+    if sequence::newer(pointer.known, pointer.sequence, sequence) {
+        return Pointer {
+            known: true,
+            sequence: sequence,
+            x: x,
+            y: y,
+        };
+    }
+    pointer
+}
+
+// The call for positions: takes type 1 only. The answer is the pointer as the packet sets it, or the first refusal in 01's order.
+pub fn position(pointer: Pointer, packet: &[u8]) -> PointerAnswer
+    ensures { λ r. ⌜ r ≡ positioned pointer (now (packet .entry)) ⌝ }
+{
+    match position::read(packet) {
+        PositionAnswer::Refused { status, place } => PointerAnswer::Refused {
+            status: status,
+            place: place,
+        },
+        PositionAnswer::Accepted(position) => {
+            if sequence::newer(pointer.known, pointer.sequence, position.sequence) {
+                PointerAnswer::Accepted(moved(pointer, position.sequence, position.x, position.y))
+            } else {
+                PointerAnswer::Refused {
+                    status: Status::NotNewer,
+                    place: 0,
+                }
+            }
+        }
+    }
+}
