@@ -17,13 +17,13 @@ pub enum Answer {
 }
 
 // What the header gives: the command, or the refusal, whose place is 0.
-pub enum Header {
+enum Header {
     Command(u8),
     Refused { status: Status },
 }
 
 // What one TLV gives: the place after it and the record with its value, or the refusal and its place.
-pub enum Step {
+enum Step {
     Known { next: usize, message: Message },
     Refused { status: Status, place: usize },
 }

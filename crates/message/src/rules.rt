@@ -16,7 +16,7 @@ const N: u8 = NEEDED;
 const O: u8 = OPTIONAL;
 
 // The lengths that a value may have: the least, the greatest, and what they are multiples of.
-pub struct Lengths(pub usize, pub usize, pub usize);
+struct Lengths(usize, usize, usize);
 
 // Whether there is a message of this command.
 pub fn known_command(command: u8) -> bool
