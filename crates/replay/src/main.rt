@@ -9,6 +9,7 @@ use cursor::pointer::Pointer;
 use cursor::pointer::PointerAnswer;
 use cursor::storing::StoreAnswer;
 use libc::STDOUT_FILENO;
+use wire::number;
 use wire::signed;
 use wire::status;
 
@@ -82,7 +83,7 @@ fn sum_of(state: State) -> u64 {
 // One call more; after each 16 the line ends with the sum.
 fn counted(state: State) -> State {
     let mut next = state;
-    next.calls = (state.calls + 1) % 16;
+    next.calls = (state.calls % 16 + 1) % 16;
     if next.calls == 0 {
         print_number(sum_of(next));
         print(b"\n");
@@ -168,7 +169,7 @@ fn turn(fd: i32, state: State) -> State {
         return last;
     }
     let kind = frame[0];
-    let len = frame[1] as usize;
+    let len = number::u8_at(&frame, 1) as usize;
     if 38 < len {
         return counted(call(state, kind, &frame[2..40]));
     }

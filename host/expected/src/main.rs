@@ -1,57 +1,76 @@
-//! What each program of the library must print, computed by the reference alone.
+//! What each program of the library must print, computed by the reference alone, and the stream
+//! that one of them reads.
 //!
-//! `expected NAME` prints the expected output of the program crate `NAME`, and
-//! `expected --check CRATES` compares each with the file `stdout` of that crate below the folder
-//! `CRATES`, one line a crate; the exit status is 1 where one differs.
+//! `expected --check CRATES` compares each stored file below the folder `CRATES` with the expected
+//! one, a line a file; the exit status is 1 where one differs. `expected --write CRATES` stores
+//! them, and `expected FILE` prints one, as `expected wire_run/stdout`.
 
 mod cursor;
 mod limits;
 mod messages;
+mod packets;
+mod replay;
 mod session;
 mod wire;
 
+use std::io::{self, Write};
 use std::path::Path;
 use std::process::ExitCode;
 use std::{env, fs};
 
-/// The program crates by name, each with what it must print.
-const PROGRAMS: [(&str, fn() -> String); 5] = [
-    ("wire_run", wire::lines),
-    ("message_run", messages::lines),
-    ("session_run", session::lines),
-    ("limits_run", limits::lines),
-    ("cursor_run", cursor::lines),
+type Contents = fn() -> Vec<u8>;
+
+/// The stored files, each with what it must hold.
+const FILES: [(&str, Contents); 7] = [
+    ("wire_run/stdout", || wire::lines().into()),
+    ("message_run/stdout", || messages::lines().into()),
+    ("session_run/stdout", || session::lines().into()),
+    ("limits_run/stdout", || limits::lines().into()),
+    ("cursor_run/stdout", || cursor::lines().into()),
+    ("replay/data/stream", replay::stream),
+    ("replay/stdout", || replay::lines().into()),
 ];
 
 fn main() -> ExitCode {
     let arguments: Vec<String> = env::args().skip(1).collect();
     match arguments.iter().map(String::as_str).collect::<Vec<_>>()[..] {
         ["--check", crates] => check(Path::new(crates)),
-        [name] => print(name),
+        ["--write", crates] => write(Path::new(crates)),
+        [file] => print(file),
         _ => {
-            eprintln!("usage: expected NAME | expected --check CRATES");
+            eprintln!("usage: expected --check CRATES | expected --write CRATES | expected FILE");
             ExitCode::from(2)
         }
     }
 }
 
-fn print(name: &str) -> ExitCode {
-    let Some((_, lines)) = PROGRAMS.iter().find(|(program, _)| *program == name) else {
-        eprintln!("expected: no program {name:?}");
-        return ExitCode::from(2);
-    };
-    print!("{}", lines());
+fn check(crates: &Path) -> ExitCode {
+    let mut differs = false;
+    for (file, contents) in FILES {
+        let same = fs::read(crates.join(file)).is_ok_and(|stored| stored == contents());
+        println!("{file}: {}", if same { "as expected" } else { "DIFFERS" });
+        differs |= !same;
+    }
+    ExitCode::from(differs as u8)
+}
+
+fn write(crates: &Path) -> ExitCode {
+    for (file, contents) in FILES {
+        if let Err(fault) = fs::write(crates.join(file), contents()) {
+            eprintln!("expected: cannot write {file}: {fault}");
+            return ExitCode::from(2);
+        }
+    }
     ExitCode::SUCCESS
 }
 
-/// Compares the stored output of each program crate with the expected one.
-fn check(crates: &Path) -> ExitCode {
-    let mut failed = false;
-    for (name, lines) in PROGRAMS {
-        let stored = crates.join(name).join("stdout");
-        let same = fs::read_to_string(&stored).is_ok_and(|text| text == lines());
-        println!("{name}: stored output {}", if same { "as expected" } else { "DIFFERS" });
-        failed |= !same;
+fn print(file: &str) -> ExitCode {
+    let Some((_, contents)) = FILES.iter().find(|(name, _)| *name == file) else {
+        eprintln!("expected: no file {file:?}");
+        return ExitCode::from(2);
+    };
+    match io::stdout().write_all(&contents()) {
+        Ok(()) => ExitCode::SUCCESS,
+        Err(_) => ExitCode::from(2),
     }
-    ExitCode::from(failed as u8)
 }

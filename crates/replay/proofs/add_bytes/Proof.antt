@@ -1,46 +1,40 @@
+-- The loop reads within the bytes. Assumes nothing.
+use Prim.Native.Nat.{_≤_, _-_}
+use native.Mathlib.Omega.{arith}
+use borrow.Author.Needs.{needs}
+use lib.ListN.{length}
 use Rattle.replay.proofs.add_bytes.Statement.{statement}
 use Rattle.replay.proofs.add_bytes.Tie as tie
-use Rattle.replay.proofs.add_bytes.Reads as reads
-use Rattle.replay.proofs.add_bytes.Lts as lts
-use Rattle.replay.proofs.add.Reads as add-reads
 
 abbrev Inv-loop : tie.InvT-loop
-Inv-loop sum bytes total₀ k₀ total k = ?
+Inv-loop sum bytes total₀ k₀ total k = k ≤ length bytes
 
 abbrev μ-loop : tie.MeasureT-loop
-μ-loop sum bytes total₀ k₀ total k = ?
+μ-loop sum bytes total₀ k₀ total k = length bytes - k
 
--- src/main.rt:48:5
 loop-holds : tie.Need-loop-holds Inv-loop μ-loop
-loop-holds c = ?
+loop-holds c = omega arith
 
--- src/main.rt:49:28
 shared-slice-read-add : tie.Need-shared-slice-read-add Inv-loop μ-loop
-shared-slice-read-add c = ?
+shared-slice-read-add c = omega arith
 
--- src/main.rt:49:28
 cast-add : tie.Need-cast-add Inv-loop μ-loop
-cast-add c = ?
+cast-add c = omega (arith, c .shared-slice-known2 .given (c .before .before .loop .k))
 
--- src/main.rt:49:9
 add-requires : tie.Need-add-requires Inv-loop μ-loop
-add-requires c κs = ?
+add-requires c κs = search needs
 
--- src/main.rt:50:9
 add-k : tie.Need-add-k Inv-loop μ-loop
-add-k c = ?
+add-k c = omega arith
 
--- src/main.rt:48:5
 loop-less : tie.Need-loop-less Inv-loop μ-loop
-loop-less c = ?
+loop-less c = omega arith
 
--- src/main.rt:48:5
 loop-again : tie.Need-loop-again Inv-loop μ-loop
-loop-again c = ?
+loop-again c = omega arith
 
--- src/main.rt:45:1
 returns : tie.Need-returns Inv-loop μ-loop
-returns c = ?
+returns c = tt
 
 pub add-bytes-spec : {M : Type 1} → statement M
 add-bytes-spec =
