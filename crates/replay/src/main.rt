@@ -77,7 +77,10 @@ fn sum_of(state: State) -> u64 {
     let picture = state.picture;
     let image = state.image;
     let marks = state.marks;
-    add_bytes(add_bytes(add_picture(add_pointer(0, pointer), picture), &image), &marks)
+    add_bytes(
+        add_bytes(add_picture(add_pointer(0, pointer), picture), &image),
+        &marks,
+    )
 }
 
 // One call more; after each 16 the line ends with the sum.
