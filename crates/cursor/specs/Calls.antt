@@ -1,5 +1,5 @@
--- Lists of calls for starts and continuations (01, "Cursor packets": "Each call gets the records, picture and marks that the last one returned or left;
--- nobody else writes them meanwhile"). Assumes nothing.
+-- Lists of calls for starts and continuations (01, "Cursor packets": "Each call gets the records, picture and marks that the last one
+-- returned or left; nobody else writes them meanwhile"). Assumes nothing.
 use Prim.Native.Nat.{ℕ, _+_, _≤_}
 use mathlib.Core.Path.{_≡_}
 use mathlib.Core.Bool.{Bool, true, false, _&&_}
@@ -60,7 +60,8 @@ covers packet i = leb (fragmentOf packet .offset) i && ltb i (fragmentOf packet 
 unfoldable pub RefusalKeeps : Type 0
 RefusalKeeps = (s : State) (packet : List ℕ) → isAccepted (answered s packet .answer) ≡ false → next s packet ≡ s
 
--- a byte that the fragment doesn't cover stays, and so does such a mark at or beyond the fragment's total; of the opened id each such mark stays
+-- a byte that the fragment doesn't cover stays, and so does such a mark at or beyond the fragment's total; of the opened id each such
+-- mark stays
 unfoldable pub OutsideKept : Type 0
 OutsideKept =
     (s : State) (packet : List ℕ) (i : ℕ) → covers packet i ≡ false
@@ -68,8 +69,8 @@ OutsideKept =
     × (fragmentOf packet .total ≤ i → getD (next s packet .marks) i 0 ≡ getD (s .marks) i 0)
     × (ofOpened (s .picture) (fragmentOf packet) ≡ true → getD (next s packet .marks) i 0 ≡ getD (s .marks) i 0)
 
--- once `opener` has opened its picture, a packet of another id whose sequence number is not newer than the opener's changes nothing: no late fragment of the
--- former picture opens it again
+-- once `opener` has opened its picture, a packet of another id whose sequence number is not newer than the opener's changes nothing: no
+-- late fragment of the former picture opens it again
 unfoldable pub FormerStaysClosed : Type 0
 FormerStaysClosed =
     (s : State) (opener late : List ℕ) → isAccepted (answered s opener .answer) ≡ true → ofOpened (s .picture) (fragmentOf opener) ≡ false

@@ -1,5 +1,5 @@
--- The completeness question (01, "Cursor packets": "The completeness question is 17 first; with no picture open its answer is no"; "Total 0 is allowed,
--- and is complete once a start is seen"). Assumes nothing.
+-- The completeness question (01, "Cursor packets": "The completeness question is 17 first; with no picture open its answer is no"; "Total
+-- 0 is allowed, and is complete once a start is seen"). Assumes nothing.
 use Prim.Native.Nat.{ℕ}
 use mathlib.Core.Bool.{Bool, not, cond, _&&_}
 use mathlib.Core.List.{List}

@@ -1,4 +1,4 @@
--- Demand 3 (DEMANDS.md), a single claim about a list of calls, sentence by sentence. Its proof stands in proofs/Laws/DemandThree.antt. Assumes nothing.
+-- Demand 3, a single claim about a list of calls, sentence by sentence. Its proof stands in proofs/Laws/DemandThree.antt. Assumes nothing.
 use Prim.Native.Nat.{ℕ, _<_}
 use mathlib.Core.Path.{_≡_}
 use mathlib.Core.Logic.{_⊎_, _↔_}
@@ -8,7 +8,7 @@ use lib.ListN.{length, getD}
 use Rattle.scan.specs.Empty.{filledAt}
 use Rattle.packet.specs.Checks.{accepted}
 use Rattle.packet.specs.Fragment.{isStart, fragmentOf, fragmentStatus, dataOf}
-use Rattle.packet.specs.declared.fragment.Start.{Start}
+use Rattle.packet.specs.declared.start.Start.{Start}
 use Rattle.cursor.specs.declared.completeness.CompleteAnswer.the-variants.{Yes}
 use Rattle.cursor.specs.Picture.{held}
 use Rattle.cursor.specs.Judging.{part}
@@ -33,16 +33,16 @@ pub record OpenedAs (w : Whole) (s : State) : Type 0 where
   pub clear : held (s .picture) (length (s .image)) (length (s .marks)) ≡ true
   pub agreeing : (i : ℕ) → i < totalOf w → filledAt (s .marks) i ≡ true → getD (s .image) i 0 ≡ getD (w .image) i 0
 
--- "well-formed fragments of that id and total, cut from the whole picture": refusals 1 to 4 and 9 don't apply, and the data are that picture's bytes at
--- the places that the fragment covers
+-- "well-formed fragments of that id and total, cut from the whole picture": refusals 1 to 4 and 9 don't apply, and the data are that
+-- picture's bytes at the places that the fragment covers
 pub record CutFrom (w : Whole) (packet : List ℕ) : Type 0 where
   pub well-formed : accepted (fragmentStatus packet) ≡ true
   pub same-id : fragmentOf packet .id ≡ w .id
   pub same-total : fragmentOf packet .total ≡ totalOf w
   pub same-bytes : dataOf packet ≡ part (fragmentOf packet .offset) (length (dataOf packet)) (w .image)
 
--- "From there take any list of calls for starts and continuations, with [such] fragments .., in any order, any number of times. Among them may stand any
--- such calls, whatever their bytes, that are refused at their turn."
+-- "From there take any list of calls for starts and continuations, with [such] fragments .., in any order, any number of times. Among
+-- them may stand any such calls, whatever their bytes, that are refused at their turn."
 abbrev pub Taken : Whole → State → List Call → Type 0
 Taken w s [] = Unit {0}
 Taken w s (fragment packet ∷ l) = CutFrom w packet × Taken w (next s packet) l
@@ -117,17 +117,18 @@ pub record SameEnd (s s′ : State) : Type 0 where
 
 pub record Shown (w : Whole) (s : State) (l : List Call) : Type 0 where
   -- "For every such list each of these fragments is accepted."
-  pub accepted : AllAccepted s l
+  pub each-accepted : AllAccepted s l
   -- "After it a place is filled exactly if it was before or one of these fragments covers it,
   pub filled : (i : ℕ) → filledAt (run s l .marks) i ≡ (covered l i || filledAt (s .marks) i)
   -- and then holds the whole picture's byte."
-  pub held : (i : ℕ) → i < totalOf w → filledAt (run s l .marks) i ≡ true → getD (run s l .image) i 0 ≡ getD (w .image) i 0
-  -- "The completeness question then answers yes exactly when a start was seen before or is one of these fragments, and every place is filled."
+  pub whole-byte : (i : ℕ) → i < totalOf w → filledAt (run s l .marks) i ≡ true → getD (run s l .image) i 0 ≡ getD (w .image) i 0
+  -- "The completeness question then answers yes exactly when a start was seen before or is one of these fragments, and every place is
+  -- filled."
   pub complete
       : completeness (run s l .picture) (length (run s l .image)) (run s l .marks) ≡ Yes
       ↔ (((started l || s .picture .seen) ≡ true) × ((i : ℕ) → i < totalOf w → filledAt (run s l .marks) i ≡ true))
-  -- "Any two such lists from the same state, with the same of these fragments in each, whatever their order and repeats, leave the same lent picture and
-  -- marks, byte for byte, and the same start fields."
+  -- "Any two such lists from the same state, with the same of these fragments in each, whatever their order and repeats, leave the same
+  -- lent picture and marks, byte for byte, and the same start fields."
   pub same : (l′ : List Call) → Given w s l′ → SameFragments l l′ → SameEnd (run s l) (run s l′)
 
 unfoldable pub DemandThree : Type 0

@@ -1,5 +1,5 @@
--- Small examples of this crate's definitions, P9 and P10 of 01, "Proved table of small examples", among them. Those that end in `refl` are computed here;
--- the proofs of `PremisesMet` and `SameFromBoth` stand in proofs/Laws/Examples.antt.
+-- Small examples of this crate's definitions, P9 and P10 of 01, "Proved table of small examples", among them. Those that end in `refl`
+-- are computed here; the proofs of `PremisesMet` and `SameFromBoth` stand in proofs/Laws/Examples.antt.
 use Prim.Native.Nat.{ℕ}
 use mathlib.Core.Path.{_≡_, refl}
 use mathlib.Core.Bool.{true, false}
@@ -17,7 +17,9 @@ use Rattle.packet.specs.Checks.{firstOf}
 use Rattle.packet.specs.Frame.{frameChecks}
 use Rattle.packet.specs.Rtp.{rtpHolds, unusedZero}
 use Rattle.packet.specs.Position.{positionChecks, positionOf}
-use Rattle.packet.specs.Fragment.{taken, headerOf, imageData, startOf, noStart, continuationOf, offsetOf, placeOf, outside, fragmentFrame, fragmentChecks, startFragment, continuationFragment, fragmentOf}
+use Rattle.packet.specs.Fragment.{taken, headerOf, imageData, offsetOf, outside, fragmentFrame, fragmentChecks, startFragment, continuationFragment, fragmentOf}
+use Rattle.packet.specs.Continuation.{continuationOf, placeOf}
+use Rattle.packet.specs.Start.{startOf, noStart}
 use Rattle.cursor.specs.declared.pointer.PointerAnswer.the-variants as pointer
 use Rattle.cursor.specs.declared.completeness.CompleteAnswer.the-variants as complete
 use Rattle.cursor.specs.Pointer.{freshPointer, movedTo, positionStatus, positioned}
@@ -60,7 +62,8 @@ pub p10
 unfolding storeStatus storeChecks freshPicture held hasRoom judging ofOpened isNewer fragmentChecks fragmentFrame firstOf frameChecks rtpHolds unusedZero number signed taken headerOf imageData continuationOf offsetOf placeOf outside fragmentOf continuationFragment
 p10 = (refl, refl, refl)
 
--- The premises of demand 3 can be met: a picture of four bytes under id 9, its last place filled, and two lists of the same three fragments.
+-- The premises of demand 3 can be met: a picture of four bytes under id 9, its last place filled, and two lists of the same three
+-- fragments.
 
 abbrev pub whole : Whole
 whole = record { id = 9; image = 65 ∷ 66 ∷ 67 ∷ 68 ∷ [] }
@@ -74,7 +77,8 @@ opened = record {
   marks = 0 ∷ 0 ∷ 0 ∷ 2 ∷ 7 ∷ [];
 }
 
--- a start with 41 42, a continuation with 42 43 at offset 1, and one with 44 at offset 3; their sequence numbers are older than the opening one
+-- a start with 41 42, a continuation with 42 43 at offset 1, and one with 44 at offset 3; their sequence numbers are older than the
+-- opening one
 abbrev pub start : ℕ → ℕ → List ℕ
 start sequence hot = rtp 0 sequence ++ (2 ∷ 0 ∷ 20 ∷ 0 ∷ 0 ∷ 0 ∷ 4 ∷ 0 ∷ 9 ∷ 0xff ∷ 0xfe ∷ 0 ∷ 10 ∷ 3 ∷ 0 ∷ hot ∷ 0 ∷ 2 ∷ 65 ∷ 66 ∷ [])
 

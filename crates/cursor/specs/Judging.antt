@@ -1,6 +1,7 @@
--- The rules by which a fragment is judged (01, "Cursor packets": "Picture"): "A fragment of the opened id: other total 12; conflict 13; otherwise its
--- data goes into the middle of the picture .. This doesn't look at the sequence. A fragment of another id, start or continuation, opens a picture if
--- newer than the sequence that opened the present one, or if there is none .. Otherwise 11." Assumes nothing.
+-- The rules by which a fragment is judged (01, "Cursor packets": "Picture"): "A fragment of the opened id: other total 12; conflict 13;
+-- otherwise its data goes into the middle of the picture .. This doesn't look at the sequence. A fragment of another id, start or
+-- continuation, opens a picture if newer than the sequence that opened the present one, or if there is none .. Otherwise 11." Assumes
+-- nothing.
 use Prim.Native.Nat.{ℕ}
 use mathlib.Core.Path.{_≡_}
 use mathlib.Core.Bool.{Bool, true, false, not, _&&_, _||_}
@@ -12,7 +13,7 @@ use Rattle.wire.specs.declared.status.Status.the-variants as status
 use Rattle.scan.specs.Conflict.{conflictIn}
 use Rattle.packet.specs.Checks.{Check, refuse, firstOf}
 use Rattle.packet.specs.declared.fragment.Fragment.{Fragment}
-use Rattle.packet.specs.declared.fragment.Start.{Start}
+use Rattle.packet.specs.declared.start.Start.{Start}
 use Rattle.cursor.specs.declared.picture.Picture.{Picture}
 use Rattle.cursor.specs.Picture.{hasRoom}
 

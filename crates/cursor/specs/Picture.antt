@@ -2,7 +2,7 @@
 use Prim.Native.Nat.{ℕ}
 use mathlib.Core.Bool.{Bool, true, false, cond, _&&_}
 use lib.Dec.{leb}
-use Rattle.packet.specs.Fragment.{noStart}
+use Rattle.packet.specs.Start.{noStart}
 use Rattle.cursor.specs.declared.picture.Picture.{Picture}
 
 -- no picture is opened

@@ -1,5 +1,5 @@
--- The pointer (01, "Cursor packets": "a position packet that isn't newer than the last pointer sequence is 11. A newer one sets position and last").
--- Assumes nothing.
+-- The pointer (01, "Cursor packets": "a position packet that isn't newer than the last pointer sequence is 11. A newer one sets position
+-- and last"). Assumes nothing.
 use Prim.Native.Nat.{ℕ}
 use mathlib.Core.Path.{_≡_}
 use mathlib.Core.Bool.{Bool, true, false, not, cond}

@@ -1,5 +1,5 @@
--- The call for starts and continuations: its checks in their order, and what an accepted fragment does (01, "Cursor packets": "Pointer", "Picture").
--- Assumes nothing.
+-- The call for starts and continuations: its checks in their order, and what an accepted fragment does (01, "Cursor packets": "Pointer",
+-- "Picture"). Assumes nothing.
 use Prim.Native.Nat.{ℕ}
 use mathlib.Core.Path.{_≡_}
 use mathlib.Core.Bool.{true, false, not, cond}
@@ -9,7 +9,8 @@ use Rattle.wire.specs.Splice.{splice}
 use Rattle.wire.specs.declared.status.Status.{Status}
 use Rattle.wire.specs.declared.status.Status.the-variants as status
 use Rattle.packet.specs.Checks.{Check, refuse, firstOf, accepted}
-use Rattle.packet.specs.Fragment.{isStart, noStart, fragmentChecks, fragmentOf, dataOf}
+use Rattle.packet.specs.Fragment.{isStart, fragmentChecks, fragmentOf, dataOf}
+use Rattle.packet.specs.Start.{noStart}
 use Rattle.packet.specs.declared.fragment.Fragment.{Fragment}
 use Rattle.cursor.specs.declared.pointer.Pointer.{Pointer}
 use Rattle.cursor.specs.declared.picture.Picture.{Picture}
@@ -75,8 +76,8 @@ outcome s p q f ds image marks =
 unfoldable pub taken : Pointer → Picture → Fragment → List ℕ → List ℕ → List ℕ → After
 taken p q f ds image marks = outcome (firstOf (judging q f ds image marks)) p q f ds image marks
 
--- The call: "17 where a picture is lent; fewer than 15 bytes 1; RTP 3; type 4; PacketMsgSize below its header .. 2; too few bytes 1; too many 2; 9;
--- 10; then the rules below".
+-- The call: "17 where a picture is lent; fewer than 15 bytes 1; RTP 3; type 4; PacketMsgSize below its header .. 2; too few bytes 1; too
+-- many 2; 9; 10; then the rules below".
 unfoldable pub storeChecks : Picture → List ℕ → List ℕ → List ℕ → List Check
 storeChecks q packet image marks =
     refuse status.ImageNotHeld (not (held q (length image) (length marks)))

@@ -1,4 +1,5 @@
-// What the call for starts and continuations makes of a fragment: whether it is stored, or refused with 10, 12, 13 or 11. Nothing is changed here.
+// What the call for starts and continuations makes of a fragment: whether it is stored, or refused with 10, 12, 13 or 11. Nothing is
+// changed here.
 ghost use mathlib.Core.Path.{_≡_};
 ghost use Prim.Native.Nat.{_+_, _≤_};
 ghost use lib.ListN.{length};
@@ -7,7 +8,7 @@ ghost use Rattle.cursor.specs.Judging.{ofOpened, sameStart, startDiffers
 use super::picture;
 use super::picture::Picture;
 use packet::fragment::Fragment;
-use packet::fragment::Start;
+use packet::start::Start;
 use scan::conflict;
 use wire::sequence;
 use wire::status::Status;

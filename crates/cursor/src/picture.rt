@@ -1,8 +1,9 @@
-// The record of the opened picture. Beside it the host lends the picture itself, the bytes of the cursor image, and marks, one byte a place: zero
-// means empty, else filled. The places of a picture are 0 to its total − 1; lent bytes and marks beyond them are no places of it.
+// The record of the opened picture. Beside it the host lends the picture itself, the bytes of the cursor image, and marks, one byte a
+// place: zero means empty, else filled. The places of a picture are 0 to its total − 1; lent bytes and marks beyond them are no places of
+// it.
 ghost use mathlib.Core.Path.{_≡_};
 ghost use Rattle.cursor.specs.Picture.{freshPicture, hasRoom, held};
-use packet::fragment::Start;
+use packet::start::Start;
 
 // Where no picture is opened the other fields are not looked at; where no start was seen the start fields are not.
 pub struct Picture {

@@ -12,7 +12,7 @@ use super::pointer::Pointer;
 use packet::fragment;
 use packet::fragment::Fragment;
 use packet::fragment::FragmentAnswer;
-use packet::fragment::Start;
+use packet::start::Start;
 use scan::bytes;
 use wire::status;
 use wire::status::Status;
@@ -38,8 +38,8 @@ fn opened_by(fragment: Fragment) -> Picture
     }
 }
 
-// Opens a picture if the fragment is of another id than the opened one: the marks of its places become 0. Answers the record of the picture that the
-// fragment belongs to.
+// Opens a picture if the fragment is of another id than the opened one: the marks of its places become 0. Answers the record of the
+// picture that the fragment belongs to.
 fn open_for(picture: Picture, fragment: Fragment, marks: &mut [u8]) -> Picture
     requires { ⌜ fragment .total ≤ length (now marks) ⌝ }
     ensures record { λ r. ⌜ r ≡ openedFor picture fragment ⌝ }
@@ -53,7 +53,8 @@ fn open_for(picture: Picture, fragment: Fragment, marks: &mut [u8]) -> Picture
     opened_by(fragment)
 }
 
-// Stores the data at its offset, and marks the places that it covers. The part of the picture from the offset, of the data's length, is lent on.
+// Stores the data at its offset, and marks the places that it covers. The part of the picture from the offset, of the data's length, is
+// lent on.
 fn put(offset: u32, data: &[u8], image: &mut [u8], marks: &mut [u8])
     requires { ⌜ (offset + length (now «data») ≤ length (now image)) × (offset + length (now «data») ≤ length (now marks)) ⌝ }
     ensures bytes { λ _. ⌜ now (image .exit) ≡ splice offset (now («data» .entry)) (now (image .entry)) ⌝ }
@@ -117,8 +118,8 @@ fn take(
     StoreAnswer::Accepted(moved_by(pointer, fragment), with_start(opened, fragment))
 }
 
-// The call for starts and continuations: takes types 2 and 3 only. The answer is the records as the fragment leaves them, or the first refusal in
-// 01's order; a refusal changes no byte.
+// The call for starts and continuations: takes types 2 and 3 only. The answer is the records as the fragment leaves them, or the first
+// refusal in 01's order; a refusal changes no byte.
 pub fn store(
     pointer: Pointer,
     picture: Picture,

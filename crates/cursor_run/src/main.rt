@@ -1,12 +1,13 @@
-// Runs the calls of `cursor` and prints a line a call: the call, the paper's number of its status, and what then stands in the records, in five bytes of the
-// picture and in the marks beside them. The packets are P9 and P10 of 01, those of 003 section 4, and orders, repeats and refusals of a small picture.
+// Runs the calls of `cursor` and prints a line a call: the call, the paper's number of its status, and what then stands in the records,
+// in five bytes of the picture and in the marks beside them. The packets are P9 and P10 of 01, those of 003 section 4, and orders,
+// repeats and refusals of a small picture.
 use cursor::completeness::CompleteAnswer;
 use cursor::picture::Picture;
 use cursor::pointer::Pointer;
 use cursor::pointer::PointerAnswer;
 use cursor::storing::StoreAnswer;
 use libc::STDOUT_FILENO;
-use packet::fragment::Start;
+use packet::start::Start;
 use scan::bytes;
 use wire::number;
 use wire::signed;
@@ -171,8 +172,8 @@ fn fresh() -> Records {
     }
 }
 
-// P9, the same again, 32,767 ahead (with the position of 003 section 4), an older one, 65,535, 0 after it; then a start, a wrong size, too few bytes twice, too
-// many, and an SSRC that is not 0.
+// P9, the same again, 32,767 ahead (with the position of 003 section 4), an older one, 65,535, 0 after it; then a start, a wrong size,
+// too few bytes twice, too many, and an SSRC that is not 0.
 fn positions() {
     let p = Pointer::fresh();
     let p = call_position(
@@ -333,7 +334,8 @@ fn in_order(small: Small) -> Small {
     r
 }
 
-// A second start with another hot spot 13; another byte for a filled place 13; another total 12; another id, not newer, 11; too large a total 10; a position 4.
+// A second start with another hot spot 13; another byte for a filled place 13; another total 12; another id, not newer, 11; too large a
+// total 10; a position 4.
 fn refusals(small: Small) -> Small {
     let r = small_store(
         small,

@@ -1,4 +1,5 @@
--- An order of checks (01, "Refusal numbers": "Each number is given exactly under its condition, first in the order of checks"). Assumes nothing.
+-- An order of checks (01, "Refusal numbers": "Each number is given exactly under its condition, first in the order of checks"). Assumes
+-- nothing.
 use mathlib.Core.Bool.{Bool, true, not, cond, _&&_}
 use mathlib.Core.List.{List, [], _∷_}
 use lib.Dec.{eqb}

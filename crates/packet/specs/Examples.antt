@@ -13,7 +13,9 @@ use Rattle.packet.specs.Checks.{firstOf}
 use Rattle.packet.specs.Rtp.{unusedZero, rtpHolds}
 use Rattle.packet.specs.Frame.{frameChecks}
 use Rattle.packet.specs.Position.{positionChecks, positionOf, readPosition}
-use Rattle.packet.specs.Fragment.{taken, headerOf, imageData, startOf, continuationOf, offsetOf, outside, fragmentFrame, fragmentChecks, startFragment, fragmentOf, fragmentStatus, dataOf, readFragment}
+use Rattle.packet.specs.Fragment.{taken, headerOf, imageData, offsetOf, outside, fragmentFrame, fragmentChecks, startFragment, fragmentOf, fragmentStatus, dataOf, readFragment}
+use Rattle.packet.specs.Continuation.{continuationOf}
+use Rattle.packet.specs.Start.{startOf}
 
 -- an RTP header with a sequence number below 256
 abbrev pub rtp : ℕ → List ℕ
@@ -60,7 +62,8 @@ pub start-data : dataOf start ≡ 65 ∷ 66 ∷ []
 unfolding imageData headerOf number
 start-data = refl
 
--- the order: too short before a wrong type, a wrong RTP field before a wrong type, a wrong type before a wrong size; each call takes its own types
+-- the order: too short before a wrong type, a wrong RTP field before a wrong type, a wrong type before a wrong size; each call takes its
+-- own types
 pub in-order
     : (fragmentStatus [] ≡ status.Truncated)
     × (fragmentStatus (0 ∷ rtp 5 ++ (9 ∷ 0 ∷ 0 ∷ [])) ≡ status.WrongHeader)

@@ -10,13 +10,13 @@ use Rattle.wire.specs.Number.{number}
 use Rattle.wire.specs.Signed.{signed}
 use Rattle.wire.specs.declared.status.Status.{Status}
 use Rattle.wire.specs.declared.status.Status.the-variants as status
-use Rattle.packet.specs.declared.fragment.Start.{Start}
-use Rattle.packet.specs.declared.fragment.Continuation.{Continuation}
 use Rattle.packet.specs.declared.fragment.Fragment.{Fragment}
 use Rattle.packet.specs.declared.fragment.FragmentAnswer.{FragmentAnswer}
 use Rattle.packet.specs.declared.fragment.FragmentAnswer.the-variants.{Accepted, Refused}
 use Rattle.packet.specs.Checks.{Check, refuse, firstOf, accepted}
+use Rattle.packet.specs.Continuation.{continuationOf, placeOf}
 use Rattle.packet.specs.Frame.{typeOf, sizeOf, frameChecks}
+use Rattle.packet.specs.Start.{startOf, noStart}
 
 -- the call for starts and continuations takes types 2 and 3 only
 unfoldable pub taken : ℕ → Bool
@@ -32,24 +32,9 @@ headerOf starts = cond starts 18 13
 unfoldable pub imageData : Bool → List ℕ → List ℕ
 imageData starts p = drop (12 + headerOf starts) p
 
-unfoldable pub startOf : List ℕ → Start
-startOf p = record { «image_type» = number 1 p 25; «hot_x» = number 2 p 26; «hot_y» = number 2 p 28 }
-
-unfoldable pub noStart : Start
-noStart = record { «image_type» = 0; «hot_x» = 0; «hot_y» = 0 }
-
--- the offset is two's complement
-unfoldable pub continuationOf : List ℕ → Continuation
-continuationOf p = record { offset = signed 4 (number 4 p 21) }
-
 -- a start's data stand at offset 0
 unfoldable pub offsetOf : Bool → List ℕ → ℤ
 offsetOf starts p = cond starts (pos 0) (continuationOf p .offset)
-
--- the place that an offset names; 0 for a negative one, which check 9 refuses
-unfoldable pub placeOf : ℤ → ℕ
-placeOf (pos offset) = offset
-placeOf (negsuc k) = 0
 
 -- refusal 9: negative offset, or offset plus data beyond the total
 unfoldable pub outside : ℤ → ℕ → ℕ → Bool

@@ -1,5 +1,6 @@
--- What packets of every type share, and the checks on it (01, "Cursor packets": "Then MsgType (1) and PacketMsgSize (2), counted from MsgType";
--- "fewer than 15 bytes 1; RTP 3; type 4; PacketMsgSize below its header, or not 7 for a position, 2; too few bytes 1; too many 2"). Assumes nothing.
+-- What packets of every type share, and the checks on it (01, "Cursor packets": "Then MsgType (1) and PacketMsgSize (2), counted from
+-- MsgType"; "fewer than 15 bytes 1; RTP 3; type 4; PacketMsgSize below its header, or not 7 for a position, 2; too few bytes 1; too many
+-- 2"). Assumes nothing.
 use Prim.Native.Nat.{ℕ, _+_}
 use mathlib.Core.Bool.{Bool, not}
 use mathlib.Core.List.{List, [], _∷_}

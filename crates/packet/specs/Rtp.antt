@@ -1,4 +1,5 @@
--- The RTP header (003 section 2.2; 01, "Cursor packets": "first byte 80 hex, second 0, sequence (2), timestamp 0 (4), SSRC 0 (4)"). Assumes nothing.
+-- The RTP header (003 section 2.2; 01, "Cursor packets": "first byte 80 hex, second 0, sequence (2), timestamp 0 (4), SSRC 0 (4)").
+-- Assumes nothing.
 use Prim.Native.Nat.{ℕ}
 use mathlib.Core.Bool.{Bool, _&&_}
 use mathlib.Core.List.{List}

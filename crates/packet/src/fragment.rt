@@ -12,38 +12,18 @@
 //      30         ImageData, at offset 0
 ghost use mathlib.Core.Path.{_≡_};
 ghost use Rattle.packet.specs.Checks.{firstOf};
-ghost use Rattle.packet.specs.Fragment.{headerOf, imageData, outside, offsetOf, placeOf, taken, fragmentFrame, fragmentChecks, noStart, startOf, continuationOf, startFragment, continuationFragment, readFragment};
+ghost use Rattle.packet.specs.Fragment.{taken, headerOf, imageData, offsetOf, outside, fragmentFrame, fragmentChecks, startFragment, continuationFragment, readFragment};
+use super::continuation;
+use super::continuation::Continuation;
 use super::frame;
 use super::rtp;
 use super::rtp::Rtp;
+use super::start;
+use super::start::Start;
 use wire::number;
 use wire::signed;
 use wire::status;
 use wire::status::Status;
-
-// The fields that only a start has, but for the position.
-pub struct Start {
-    pub image_type: u8,
-    pub hot_x: u16,
-    pub hot_y: u16,
-}
-
-impl Start {
-    pub const TYPE: u8 = 2;
-    // The least PacketMsgSize: all but the data.
-    pub const HEADER: usize = 18;
-}
-
-// The field that only a continuation has.
-pub struct Continuation {
-    pub offset: i32,
-}
-
-impl Continuation {
-    pub const TYPE: u8 = 3;
-    // The least PacketMsgSize: all but the data.
-    pub const HEADER: usize = 13;
-}
 
 // A start or a continuation, but for its data. A start stands at offset 0; a continuation has position 0, 0 and start fields 0.
 pub struct Fragment {
@@ -60,19 +40,6 @@ pub struct Fragment {
 pub enum FragmentAnswer {
     Accepted(Fragment),
     Refused { status: Status, place: usize },
-}
-
-impl Start {
-    // The start fields where no start was seen.
-    pub fn none() -> Start
-        ensures { λ r. ⌜ r ≡ noStart ⌝ }
-    {
-        Start {
-            image_type: 0,
-            hot_x: 0,
-            hot_y: 0,
-        }
-    }
 }
 
 fn header(starts: bool) -> usize
@@ -111,24 +78,6 @@ fn is_outside(offset: i32, length: usize, total: u32) -> bool
     true
 }
 
-fn read_start(packet: &[u8]) -> Start
-    ensures { λ r. ⌜ r ≡ startOf (now (packet .entry)) ⌝ }
-{
-    Start {
-        image_type: number::u8_at(packet, 25),
-        hot_x: number::u16_at(packet, 26),
-        hot_y: number::u16_at(packet, 28),
-    }
-}
-
-fn read_continuation(packet: &[u8]) -> Continuation
-    ensures { λ r. ⌜ r ≡ continuationOf (now (packet .entry)) ⌝ }
-{
-    Continuation {
-        offset: signed::signed32(number::u32_at(packet, 21)),
-    }
-}
-
 // The offset: 0 for a start.
 fn offset(packet: &[u8], starts: bool) -> i32
     ensures { λ r. ⌜ r ≡ offsetOf starts (now (packet .entry)) ⌝ }
@@ -136,18 +85,8 @@ fn offset(packet: &[u8], starts: bool) -> i32
     if starts {
         return 0;
     }
-    let own = read_continuation(packet);
+    let own = continuation::read(packet);
     own.offset
-}
-
-// The place that an offset names; 0 for a negative one, which check 9 refuses.
-fn place_of(offset: i32) -> u32
-    ensures { λ r. ⌜ r ≡ placeOf offset ⌝ }
-{
-    if 0 <= offset {
-        return offset as u32;
-    }
-    0
 }
 
 fn is_taken(kind: u8) -> bool
@@ -189,7 +128,7 @@ fn start_fields(packet: &[u8]) -> Fragment
     let rtp = rtp::read(packet);
     let x = signed::signed16(number::u16_at(packet, 21));
     let y = signed::signed16(number::u16_at(packet, 23));
-    let own = read_start(packet);
+    let own = start::read(packet);
     Fragment {
         sequence: rtp.sequence,
         total: number::u32_at(packet, 15),
@@ -206,13 +145,13 @@ fn continuation_fields(packet: &[u8]) -> Fragment
     ensures { λ r. ⌜ r ≡ continuationFragment (now (packet .entry)) ⌝ }
 {
     let rtp = rtp::read(packet);
-    let own = read_continuation(packet);
+    let own = continuation::read(packet);
     let none = Start::none();
     Fragment {
         sequence: rtp.sequence,
         total: number::u32_at(packet, 15),
         id: number::u16_at(packet, 19),
-        offset: place_of(own.offset),
+        offset: continuation::place_of(own.offset),
         starts: false,
         x: 0,
         y: 0,
@@ -220,8 +159,8 @@ fn continuation_fields(packet: &[u8]) -> Fragment
     }
 }
 
-// The start or continuation, or the first refusal in 01's order: fewer than 15 bytes 1; RTP 3; another type 4; PacketMsgSize below the header 2;
-// too few bytes 1; too many 2; negative offset, or offset plus data beyond the total, 9.
+// The start or continuation, or the first refusal in 01's order: fewer than 15 bytes 1; RTP 3; another type 4; PacketMsgSize below the
+// header 2; too few bytes 1; too many 2; negative offset, or offset plus data beyond the total, 9.
 pub fn read(packet: &[u8]) -> FragmentAnswer
     ensures { λ r. ⌜ r ≡ readFragment (now (packet .entry)) ⌝ }
 {

@@ -7,7 +7,8 @@ use super::rtp::Rtp;
 use wire::number;
 use wire::status::Status;
 
-// The first of the checks 1, 3, 4, 2, 1, 2 that refuses a packet. `taken`: the call takes its type; `fits`: its PacketMsgSize is one of its type's.
+// The first of the checks 1, 3, 4, 2, 1, 2 that refuses a packet. `taken`: the call takes its type; `fits`: its PacketMsgSize is one of
+// its type's.
 pub fn check(packet: &[u8], taken: bool, fits: bool) -> Status
     ensures { λ r. ⌜ r ≡ firstOf (frameChecks taken fits (now (packet .entry))) ⌝ }
 {

@@ -5,7 +5,9 @@
 //      12      1  MsgType
 //      13      2  PacketMsgSize, counted from MsgType
 //      15         the fields of the packet's type
+pub mod continuation;
 pub mod fragment;
 mod frame;
 pub mod position;
 pub mod rtp;
+pub mod start;

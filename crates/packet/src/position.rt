@@ -43,8 +43,8 @@ fn fields(packet: &[u8]) -> Position
     }
 }
 
-// The position packet, or the first refusal in 01's order: fewer than 15 bytes 1; RTP 3; another type 4; PacketMsgSize not 7, 2; too few bytes 1;
-// too many 2.
+// The position packet, or the first refusal in 01's order: fewer than 15 bytes 1; RTP 3; another type 4; PacketMsgSize not 7, 2; too few
+// bytes 1; too many 2.
 pub fn read(packet: &[u8]) -> PositionAnswer
     ensures { λ r. ⌜ r ≡ readPosition (now (packet .entry)) ⌝ }
 {

@@ -37,8 +37,8 @@ fn differing(marks: &[u8], old: &[u8], new: &[u8], n: usize) -> bool
     high != 0
 }
 
-// Whether some place is filled and holds another byte than the new one, as far as all three go. The bytes are compared only if one of those places
-// is filled.
+// Whether some place is filled and holds another byte than the new one, as far as all three go. The bytes are compared only if one of
+// those places is filled.
 pub fn found(marks: &[u8], old: &[u8], new: &[u8]) -> bool
     ensures { λ r. ⌜ r ≡ conflictIn (now (marks .entry)) (now (old .entry)) (now (new .entry)) ⌝ }
 {

@@ -31,15 +31,9 @@ use Rattle.packet.specs.Checks.{firstOf}
 use Rattle.packet.specs.Rtp.{unusedZero, rtpHolds}
 use Rattle.packet.specs.Frame.{frameChecks}
 use Rattle.packet.specs.Position.{positionChecks, positionOf, readPosition}
-use Rattle.packet.specs.Fragment.{taken, headerOf as fragmentHeader, imageData, continuationOf, offsetOf, outside, fragmentFrame, fragmentChecks, fragmentStatus}
+use Rattle.packet.specs.Continuation.{continuationOf}
+use Rattle.packet.specs.Fragment.{taken, headerOf as fragmentHeader, imageData, offsetOf, outside, fragmentFrame, fragmentChecks, fragmentStatus}
 use Rattle.limits.specs.declared.hex.Digits.{Digits}
-use Rattle.packet.specs.declared.position.PositionAnswer.{PositionAnswer}
-use Rattle.packet.specs.declared.position.PositionAnswer.the-variants as positioned
-use Rattle.packet.specs.Checks.{firstOf}
-use Rattle.packet.specs.Rtp.{unusedZero, rtpHolds}
-use Rattle.packet.specs.Frame.{frameChecks}
-use Rattle.packet.specs.Position.{positionChecks, positionOf, readPosition}
-use Rattle.packet.specs.Fragment.{taken, headerOf as fragmentHeader, imageData, continuationOf, offsetOf, outside, fragmentFrame, fragmentChecks, fragmentStatus}
 use Rattle.limits.specs.declared.hex.Digits.the-variants as hexadecimal
 use Rattle.limits.specs.Range.{within}
 use Rattle.limits.specs.Hex.{digitValue, isDigit, number as hexNumber, readDigits}

@@ -1,5 +1,5 @@
--- One call, on the state that the host keeps: a refusal keeps it, an accepted fragment changes what it covers, and opening sets the sequence number that later
--- fragments of other ids are held to. Assumes nothing.
+-- One call, on the state that the host keeps: a refusal keeps it, an accepted fragment changes what it covers, and opening sets the
+-- sequence number that later fragments of other ids are held to. Assumes nothing.
 use Prim.Native.Nat.{ℕ, _+_, _≤_}
 use mathlib.Core.Path.{_≡_, refl, sym, ap, _∙_}
 use mathlib.Core.Bool.{Bool, true, false, cond, false≢true}

@@ -1,5 +1,5 @@
--- Demand 3: each fragment is accepted, and each byte, mark and start field after a list of calls has a closed form in which order and repeats don't occur.
--- Assumes nothing.
+-- Demand 3: each fragment is accepted, and each byte, mark and start field after a list of calls has a closed form in which order and
+-- repeats don't occur. Assumes nothing.
 use Prim.Native.Nat.{ℕ, _+_, _-_, _≤_, _<_}
 use mathlib.Core.Path.{_≡_, refl, sym, ap, _∙_, subst}
 use mathlib.Core.Logic.{⊎-elim, _↔_}
@@ -18,10 +18,10 @@ use Rattle.scan.specs.Empty.{filledAt}
 use Rattle.scan.specs.Order.{lesser}
 use Rattle.scan.proofs.Laws.Below.{below-none}
 use Rattle.scan.proofs.Laws.Order.{lesser-le}
-use Rattle.packet.specs.Checks.{firstOf, accepted}
+use Rattle.packet.specs.Checks.{firstOf}
 use Rattle.packet.specs.Fragment.{isStart, fragmentOf, dataOf, DataInside}
 use Rattle.packet.specs.declared.fragment.Fragment.{Fragment}
-use Rattle.packet.specs.declared.fragment.Start.{Start}
+use Rattle.packet.specs.declared.start.Start.{Start}
 use Rattle.packet.proofs.Laws.Checks.{both}
 use Rattle.packet.proofs.Laws.Fragment.{data-inside, starts-is}
 use Rattle.cursor.specs.declared.picture.Picture.{Picture}
@@ -215,7 +215,8 @@ cond-or true true x y = refl
 cond-or true false x y = refl
 cond-or false d x y = refl
 
--- A state that is the same as s but for what fragments cut from the whole picture have stored, `over` saying which places, and `new` whether a start.
+-- A state that is the same as s but for what fragments cut from the whole picture have stored, `over` saying which places, and `new`
+-- whether a start.
 
 record Grown (w : Whole) (a : Start) (s : State) (over : ℕ → Bool) (new : Bool) (s′ : State) : Type 0 where
   image-long : length (s′ .image) ≡ length (s .image)
@@ -434,9 +435,9 @@ demand-three w s l g =
     let o = still-opened w a s (covered l) (started l) (run s l) (r .grown) (g .opened) in
     let n : run s l .picture .seen ≡ (started l || s .picture .seen) = ap (λ (q : Picture). q .seen) (r .grown .picture-is) ∙ seen-or a (s .picture) (started l) in
     record {
-      accepted = r .all-accepted;
+      each-accepted = r .all-accepted;
       filled = filled-is w a s (covered l) (started l) (run s l) (r .grown);
-      held = λ i h k. o .agreeing i h k;
+      whole-byte = o .agreeing;
       complete = rw (← n) (complete-yes w (run s l) o);
       same = λ l′ g′ m. same-end w s l l′ g g′ (m .0) (m .1);
     }

@@ -15,7 +15,9 @@ use Rattle.scan.specs.Order.{lesser}
 use Rattle.packet.specs.Checks.{firstOf}
 use Rattle.packet.specs.Frame.{frameChecks}
 use Rattle.packet.specs.Rtp.{rtpHolds, unusedZero}
-use Rattle.packet.specs.Fragment.{taken, headerOf, imageData, startOf, noStart, continuationOf, offsetOf, placeOf, outside, fragmentFrame, fragmentChecks, startFragment, continuationFragment, fragmentOf}
+use Rattle.packet.specs.Fragment.{taken, headerOf, imageData, offsetOf, outside, fragmentFrame, fragmentChecks, startFragment, continuationFragment, fragmentOf}
+use Rattle.packet.specs.Continuation.{continuationOf, placeOf}
+use Rattle.packet.specs.Start.{startOf, noStart}
 use Rattle.cursor.specs.Picture.{hasRoom, held}
 use Rattle.cursor.specs.Judging.{ofOpened, sameStart, startDiffers, bytesDiffer, judging}
 use Rattle.cursor.specs.Storing.{openedFor, clearedFor, imageAfter, marksAfter, withStart, pictureAfter, outcome, storeChecks, storeStatus, stored}

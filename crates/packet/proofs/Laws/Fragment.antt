@@ -20,7 +20,8 @@ use Rattle.packet.specs.declared.fragment.Fragment.{Fragment}
 use Rattle.packet.specs.declared.fragment.FragmentAnswer.the-variants.{Accepted, Refused}
 use Rattle.packet.specs.Checks.{refuse, firstOf, accepted, refusing}
 use Rattle.packet.specs.Frame.{frameChecks}
-use Rattle.packet.specs.Fragment.{isStart, headerOf, imageData, offsetOf, outside, placeOf, fragmentFrame, fragmentChecks, startFragment, continuationFragment, fragmentOf, fragmentStatus, dataOf, readFragment, OffsetKept, DataInside}
+use Rattle.packet.specs.Fragment.{isStart, headerOf, imageData, offsetOf, outside, fragmentFrame, fragmentChecks, startFragment, continuationFragment, fragmentOf, fragmentStatus, dataOf, readFragment, OffsetKept, DataInside}
+use Rattle.packet.specs.Continuation.{placeOf}
 use Rattle.packet.proofs.Laws.Checks.{first-append}
 
 -- more data than the total

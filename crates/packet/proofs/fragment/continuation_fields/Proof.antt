@@ -10,8 +10,8 @@ use Rattle.packet.proofs.fragment.continuation_fields.Tie as tie
 read-requires : tie.Need-read-requires
 read-requires c κs = search needs
 
-read-continuation-requires : tie.Need-read-continuation-requires
-read-continuation-requires c κs = search needs
+read-requires-2 : tie.Need-read-requires-2
+read-requires-2 c κs = search needs
 
 none-requires : tie.Need-none-requires
 none-requires c κs = search needs
@@ -31,14 +31,15 @@ returns c =
     let i = c .before .before in
     let n = i .before .before in
     let o = n .before in
-    rw (c .place-of .ensures, toZ-ofZ w32 (o .read-continuation .result .offset) (search needs), o .read-continuation .ensures, i .u16-at .ensures, i .before .u32-at .ensures, n .none .ensures, o .before .read .ensures)
+    let z = toZ-ofZ w32 (o .read2 .result .offset) (search needs) in
+    rw (c .place-of .ensures, z, o .read2 .ensures, i .u16-at .ensures, i .before .u32-at .ensures, n .none .ensures, o .before .read .ensures)
 
 pub continuation-fields-spec : {M : Type 1} → statement M
 continuation-fields-spec =
     tie.close
     (tie.spec
     read-requires
-    read-continuation-requires
+    read-requires-2
     none-requires
     u32-at-requires
     u16-at-requires

@@ -11,12 +11,12 @@ returns : tie.Need-returns
 unfolding offsetOf
 returns c = simp (c .if1 .taken)
 
-read-continuation-requires : tie.Need-read-continuation-requires
-read-continuation-requires c κs = search needs
+read-requires : tie.Need-read-requires
+read-requires c κs = search needs
 
 returns-2 : tie.Need-returns-2
 unfolding offsetOf
-returns-2 c = simp (c .before .before .if1 .left) (toZ-ofZ w32 (c .before .read-continuation .result .offset) (search needs) ∙ rw (c .before .read-continuation .ensures))
+returns-2 c = simp (c .before .before .if1 .left) (toZ-ofZ w32 (c .before .read .result .offset) (search needs) ∙ rw (c .before .read .ensures))
 
 pub offset-spec : {M : Type 1} → statement M
-offset-spec = tie.close (tie.spec returns read-continuation-requires returns-2)
+offset-spec = tie.close (tie.spec returns read-requires returns-2)

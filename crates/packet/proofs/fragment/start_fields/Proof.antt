@@ -22,8 +22,8 @@ u16-at-requires-2 c κs = search needs
 signed16-requires-2 : tie.Need-signed16-requires-2
 signed16-requires-2 c κs = search needs
 
-read-start-requires : tie.Need-read-start-requires
-read-start-requires c κs = search needs
+read-requires-2 : tie.Need-read-requires-2
+read-requires-2 c κs = search needs
 
 u32-at-requires : tie.Need-u32-at-requires
 u32-at-requires c κs = search needs
@@ -37,7 +37,9 @@ returns c =
     let o = c .before .before in
     let t = o .before in
     let s = t .before .before in
-    rw (toZ-ofZ w16 (t .signed162 .result) (search needs), toZ-ofZ w16 (s .signed16 .result) (search needs), c .u16-at3 .ensures, c .before .u32-at .ensures, o .read-start .ensures, t .signed162 .ensures, t .before .u16-at2 .ensures, s .signed16 .ensures, s .before .u16-at .ensures, s .before .before .read .ensures)
+    let x = toZ-ofZ w16 (s .signed16 .result) (search needs) in
+    let y = toZ-ofZ w16 (t .signed162 .result) (search needs) in
+    rw (y, x, c .u16-at3 .ensures, c .before .u32-at .ensures, o .read2 .ensures, t .signed162 .ensures, t .before .u16-at2 .ensures, s .signed16 .ensures, s .before .u16-at .ensures, s .before .before .read .ensures)
 
 pub start-fields-spec : {M : Type 1} → statement M
 start-fields-spec =
@@ -48,7 +50,7 @@ start-fields-spec =
     signed16-requires
     u16-at-requires-2
     signed16-requires-2
-    read-start-requires
+    read-requires-2
     u32-at-requires
     u16-at-requires-3
     returns)

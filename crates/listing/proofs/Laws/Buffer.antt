@@ -1,0 +1,28 @@
+-- Parts of the buffer. Assumes nothing.
+use Prim.Native.Nat.{ℕ, _≤_}
+use mathlib.Core.Path.{_≡_}
+use mathlib.Core.List.{List}
+use mathlib.Core.Logic.{⊎-elim}
+use native.Mathlib.Omega.{arith}
+use borrow.Author.Tests.{ltb-true, ltb-false}
+use borrow.Rule.Slice.PartMut.{putMid}
+use lib.Dec.{ltb}
+use lib.ListN.{length, take, drop, length-take, List·getD-eq-default}
+use lib.Seq.{getD-take, getD-drop, take-at, length-take-le}
+use Rattle.message.specs.Theorems.{Bytes}
+use Rattle.wire.proofs.Laws.Bool.{either}
+
+-- a part of bytes is bytes
+pub part-bytes : (s : List ℕ) (from n : ℕ) → Bytes s → Bytes (take n (drop from s))
+part-bytes s from n b i =
+    ⊎-elim
+    (λ e. rw (getD-take n (drop from s) i 0 (ltb-true i n e), getD-drop from s i 0) (b _))
+    (λ e.
+    let l = ltb-false i n e in
+    let short : length (take n (drop from s)) ≤ i = simp length-take (omega arith) in
+    rw (List·getD-eq-default (take n (drop from s)) 0 short) (omega arith))
+    (either (ltb i n))
+
+-- what is put into a part leaves the front
+pub front-kept : (at n : ℕ) (xs ds : List ℕ) → at ≤ length xs → take at (putMid at n xs ds) ≡ take at xs
+front-kept at n xs ds h = take-at (take at xs) _ at (length-take-le at xs h)

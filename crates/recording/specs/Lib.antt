@@ -1,0 +1,5 @@
+pub mod Cut
+pub mod Line
+pub mod Listing
+pub mod Theorems
+pub mod Examples
