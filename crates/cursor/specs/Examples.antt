@@ -17,14 +17,14 @@ use Rattle.packet.specs.Checks.{firstOf}
 use Rattle.packet.specs.Frame.{frameChecks}
 use Rattle.packet.specs.Rtp.{rtpHolds, unusedZero}
 use Rattle.packet.specs.Position.{positionChecks, positionOf}
-use Rattle.packet.specs.Fragment.{taken, headerOf, imageData, offsetOf, outside, fragmentFrame, fragmentChecks, startFragment, continuationFragment, fragmentOf}
+use Rattle.packet.specs.Fragment.{takesType, headerOf, imageData, offsetOf, outside, fragmentFrame, fragmentChecks, startFragment, continuationFragment, fragmentOf}
 use Rattle.packet.specs.Continuation.{continuationOf, placeOf}
 use Rattle.packet.specs.Start.{startOf, noStart}
 use Rattle.cursor.specs.declared.pointer.PointerAnswer.the-variants as pointer
 use Rattle.cursor.specs.declared.completeness.CompleteAnswer.the-variants as complete
 use Rattle.cursor.specs.Pointer.{freshPointer, movedTo, positionStatus, positioned}
 use Rattle.cursor.specs.Picture.{freshPicture, hasRoom, held}
-use Rattle.cursor.specs.Judging.{ofOpened, sameStart, startDiffers, bytesDiffer, judging}
+use Rattle.cursor.specs.Judging.{ofOpened, sameStart, startDiffers, bytesDiffer, openedRules, otherRules, judging}
 use Rattle.cursor.specs.Storing.{openedFor, clearedFor, imageAfter, marksAfter, withStart, pictureAfter, pointerAfter, outcome, storeChecks, storeStatus, stored}
 use Rattle.cursor.specs.Completeness.{allFilled, completeness}
 use Rattle.cursor.specs.Calls.{State, Call, fragment, other, next, run}
@@ -59,7 +59,7 @@ pub p10
     : (storeStatus freshPicture (eight 13 (0 ∷ 0 ∷ 0 ∷ 8 ∷ [])) nine nine ≡ status.Accepted)
     × (storeStatus freshPicture (eight 15 (0 ∷ 0 ∷ 0 ∷ 7 ∷ 65 ∷ 66 ∷ [])) nine nine ≡ status.OutsideImage)
     × (storeStatus freshPicture (eight 13 (0xff ∷ 0xff ∷ 0xff ∷ 0xff ∷ [])) nine nine ≡ status.OutsideImage)
-unfolding storeStatus storeChecks freshPicture held hasRoom judging ofOpened isNewer fragmentChecks fragmentFrame firstOf frameChecks rtpHolds unusedZero number signed taken headerOf imageData continuationOf offsetOf placeOf outside fragmentOf continuationFragment
+unfolding storeStatus storeChecks freshPicture held hasRoom judging openedRules otherRules ofOpened isNewer fragmentChecks fragmentFrame firstOf frameChecks rtpHolds unusedZero number signed takesType headerOf imageData continuationOf offsetOf placeOf outside fragmentOf continuationFragment
 p10 = (refl, refl, refl)
 
 -- The premises of demand 3 can be met: a picture of four bytes under id 9, its last place filled, and two lists of the same three
@@ -109,5 +109,5 @@ pub ends-with
     × (run opened backwards .marks ≡ 1 ∷ 1 ∷ 1 ∷ 1 ∷ 7 ∷ [])
     × (completeness (run opened forwards .picture) 5 (run opened forwards .marks) ≡ complete.Yes)
     × (completeness (opened .picture) 5 (opened .marks) ≡ complete.No)
-unfolding run next stored outcome storeStatus storeChecks held hasRoom judging ofOpened sameStart startDiffers bytesDiffer conflictIn someBelow lesser isNewer distance movedTo openedFor clearedFor imageAfter marksAfter withStart pictureAfter pointerAfter splice fragmentChecks fragmentFrame firstOf frameChecks rtpHolds unusedZero number signed taken headerOf imageData startOf noStart continuationOf offsetOf placeOf outside fragmentOf startFragment continuationFragment allFilled completeness
+unfolding run next stored outcome storeStatus storeChecks held hasRoom judging openedRules otherRules ofOpened sameStart startDiffers bytesDiffer conflictIn someBelow lesser isNewer distance movedTo openedFor clearedFor imageAfter marksAfter withStart pictureAfter pointerAfter splice fragmentChecks fragmentFrame firstOf frameChecks rtpHolds unusedZero number signed takesType headerOf imageData startOf noStart continuationOf offsetOf placeOf outside fragmentOf startFragment continuationFragment allFilled completeness
 ends-with = (refl, refl, refl, refl, refl)

@@ -4,7 +4,7 @@
 -- nothing.
 use Prim.Native.Nat.{ℕ}
 use mathlib.Core.Path.{_≡_}
-use mathlib.Core.Bool.{Bool, true, false, not, _&&_, _||_}
+use mathlib.Core.Bool.{Bool, true, false, not, cond, _&&_, _||_}
 use mathlib.Core.List.{List, [], _∷_}
 use lib.Dec.{eqb}
 use lib.ListN.{length, take, drop}
@@ -41,14 +41,22 @@ part at n xs = take n (drop at xs)
 unfoldable pub bytesDiffer : ℕ → List ℕ → List ℕ → List ℕ → Bool
 bytesDiffer offset ds image marks = conflictIn (part offset (length ds) marks) (part offset (length ds) image) ds
 
--- the checks on a fragment f with the data ds, in their order, the record being q, and picture and marks being lent
+-- the checks on a fragment f with the data ds, the record being q, and picture and marks being lent: of the opened id, 12 and 13
+unfoldable pub openedRules : Picture → Fragment → List ℕ → List ℕ → List ℕ → List Check
+openedRules q f ds image marks =
+    refuse status.TotalDiffers (not (eqb (q .total) (f .total)))
+    ∷ refuse status.Conflict (startDiffers q f || bytesDiffer (f .offset) ds image marks)
+    ∷ []
+
+-- of another id, or where no picture is opened, 11
+unfoldable pub otherRules : Picture → Fragment → List Check
+otherRules q f = refuse status.NotNewer (not (opens q f)) ∷ []
+
+-- 10, then these rules
 unfoldable pub judging : Picture → Fragment → List ℕ → List ℕ → List ℕ → List Check
 judging q f ds image marks =
     refuse status.NoRoom (not (hasRoom (f .total) (length image) (length marks)))
-    ∷ refuse status.TotalDiffers (ofOpened q f && not (eqb (q .total) (f .total)))
-    ∷ refuse status.Conflict (ofOpened q f && (startDiffers q f || bytesDiffer (f .offset) ds image marks))
-    ∷ refuse status.NotNewer (not (ofOpened q f) && not (opens q f))
-    ∷ []
+    ∷ cond (ofOpened q f) (openedRules q f ds image marks) (otherRules q f)
 
 -- The proofs of these laws stand in proofs/Laws/Judging.antt.
 

@@ -4,7 +4,7 @@ ghost use mathlib.Core.Path.{_≡_};
 ghost use Prim.Native.Nat.{_+_, _≤_};
 ghost use lib.ListN.{length};
 ghost use Rattle.packet.specs.Checks.{firstOf};
-ghost use Rattle.cursor.specs.Judging.{ofOpened, sameStart, startDiffers, bytesDiffer, judging};
+ghost use Rattle.cursor.specs.Judging.{ofOpened, sameStart, startDiffers, bytesDiffer, openedRules, otherRules, judging};
 use super::picture;
 use super::picture::Picture;
 use packet::fragment::Fragment;
@@ -58,7 +58,40 @@ fn bytes_differ(offset: u32, data: &[u8], image: &[u8], marks: &[u8]) -> bool
     conflict::found(&marks[at..end], &image[at..end], data)
 }
 
-// The first refusal of the order 10, 12, 13, 11, or Accepted. A fragment of the opened id is judged whatever its sequence number.
+// A fragment of the opened id: another total is 12, a conflict 13. Its sequence number is not looked at.
+fn judge_opened(
+    picture: Picture,
+    fragment: Fragment,
+    data: &[u8],
+    image: &[u8],
+    marks: &[u8],
+) -> Status
+    requires { ⌜ (fragment .offset + length (now «data») ≤ length (now image)) × (fragment .offset + length (now «data») ≤ length (now marks)) ⌝ }
+    ensures { λ r. ⌜ r ≡ firstOf (openedRules picture fragment (now («data» .entry)) (now (image .entry)) (now (marks .entry))) ⌝ }
+{
+    if picture.total != fragment.total {
+        return Status::TotalDiffers;
+    }
+    if start_differs(picture, fragment) {
+        return Status::Conflict;
+    }
+    if bytes_differ(fragment.offset, data, image, marks) {
+        return Status::Conflict;
+    }
+    Status::Accepted
+}
+
+// A fragment of another id, or where no picture is opened: it opens a picture if it is newer, else it is 11.
+fn judge_other(picture: Picture, fragment: Fragment) -> Status
+    ensures { λ r. ⌜ r ≡ firstOf (otherRules picture fragment) ⌝ }
+{
+    if sequence::newer(picture.opened, picture.opening, fragment.sequence) {
+        return Status::Accepted;
+    }
+    Status::NotNewer
+}
+
+// The first refusal, or Accepted: 10 where there is no room for the fragment's total, then the rules for the opened id or for another.
 pub(crate) fn judge(
     picture: Picture,
     fragment: Fragment,
@@ -73,19 +106,7 @@ pub(crate) fn judge(
         return Status::NoRoom;
     }
     if of_opened(picture, fragment) {
-        if picture.total != fragment.total {
-            return Status::TotalDiffers;
-        }
-        if start_differs(picture, fragment) {
-            return Status::Conflict;
-        }
-        if bytes_differ(fragment.offset, data, image, marks) {
-            return Status::Conflict;
-        }
-        return Status::Accepted;
+        return judge_opened(picture, fragment, data, image, marks);
     }
-    if sequence::newer(picture.opened, picture.opening, fragment.sequence) {
-        return Status::Accepted;
-    }
-    Status::NotNewer
+    judge_other(picture, fragment)
 }

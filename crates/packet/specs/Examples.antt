@@ -13,7 +13,7 @@ use Rattle.packet.specs.Checks.{firstOf}
 use Rattle.packet.specs.Rtp.{unusedZero, rtpHolds}
 use Rattle.packet.specs.Frame.{frameChecks}
 use Rattle.packet.specs.Position.{positionChecks, positionOf, readPosition}
-use Rattle.packet.specs.Fragment.{taken, headerOf, imageData, offsetOf, outside, fragmentFrame, fragmentChecks, startFragment, fragmentOf, fragmentStatus, dataOf, readFragment}
+use Rattle.packet.specs.Fragment.{takesType, headerOf, imageData, offsetOf, outside, fragmentFrame, fragmentChecks, startFragment, fragmentOf, fragmentStatus, dataOf, readFragment}
 use Rattle.packet.specs.Continuation.{continuationOf}
 use Rattle.packet.specs.Start.{startOf}
 
@@ -35,7 +35,7 @@ pub p10
     : (fragmentStatus (eight 13 (0 ∷ 0 ∷ 0 ∷ 8 ∷ [])) ≡ status.Accepted)
     × (fragmentStatus (eight 15 (0 ∷ 0 ∷ 0 ∷ 7 ∷ 65 ∷ 66 ∷ [])) ≡ status.OutsideImage)
     × (fragmentStatus (eight 13 (0xff ∷ 0xff ∷ 0xff ∷ 0xff ∷ [])) ≡ status.OutsideImage)
-unfolding fragmentFrame fragmentChecks firstOf frameChecks rtpHolds unusedZero number signed taken headerOf imageData continuationOf offsetOf outside
+unfolding fragmentFrame fragmentChecks firstOf frameChecks rtpHolds unusedZero number signed takesType headerOf imageData continuationOf offsetOf outside
 p10 = (refl, refl, refl)
 
 -- a start: total 4, id 9, position −2, 10, image type 3, hot spot 1, 2, two bytes of data
@@ -55,7 +55,7 @@ pub start-read
       y = pos 10;
       start = record { «image_type» = 3; «hot_x» = 1; «hot_y» = 2 };
     })
-unfolding readFragment fragmentOf startFragment startOf fragmentFrame fragmentChecks firstOf frameChecks rtpHolds unusedZero number signed taken headerOf imageData continuationOf offsetOf outside
+unfolding readFragment fragmentOf startFragment startOf fragmentFrame fragmentChecks firstOf frameChecks rtpHolds unusedZero number signed takesType headerOf imageData continuationOf offsetOf outside
 start-read = refl
 
 pub start-data : dataOf start ≡ 65 ∷ 66 ∷ []
@@ -72,5 +72,5 @@ pub in-order
     × (fragmentStatus (rtp 5 ++ (3 ∷ 0 ∷ 13 ∷ [])) ≡ status.Truncated)
     × (readPosition (rtp 5 ++ (2 ∷ 0 ∷ 7 ∷ [])) ≡ position.Refused status.UnknownKind 0)
     × (readPosition (rtp 5 ++ (1 ∷ 0 ∷ 8 ∷ [])) ≡ position.Refused status.WrongSize 0)
-unfolding readPosition positionChecks positionOf fragmentFrame fragmentChecks firstOf frameChecks rtpHolds unusedZero number signed taken headerOf imageData continuationOf offsetOf outside
+unfolding readPosition positionChecks positionOf fragmentFrame fragmentChecks firstOf frameChecks rtpHolds unusedZero number signed takesType headerOf imageData continuationOf offsetOf outside
 in-order = (refl, refl, refl, refl, refl, refl, refl)

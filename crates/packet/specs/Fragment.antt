@@ -19,8 +19,8 @@ use Rattle.packet.specs.Frame.{typeOf, sizeOf, frameChecks}
 use Rattle.packet.specs.Start.{startOf, noStart}
 
 -- the call for starts and continuations takes types 2 and 3 only
-unfoldable pub taken : ℕ → Bool
-taken t = eqb t 2 || eqb t 3
+unfoldable pub takesType : ℕ → Bool
+takesType t = eqb t 2 || eqb t 3
 
 abbrev pub isStart : List ℕ → Bool
 isStart p = eqb (typeOf p) 2
@@ -43,7 +43,7 @@ outside (negsuc k) size total = true
 
 -- the checks of the call for starts and continuations on the packet alone, in their order
 unfoldable pub fragmentFrame : Bool → List ℕ → List Check
-fragmentFrame starts p = frameChecks (taken (typeOf p)) (leb (headerOf starts) (sizeOf p)) p
+fragmentFrame starts p = frameChecks (takesType (typeOf p)) (leb (headerOf starts) (sizeOf p)) p
 
 unfoldable pub fragmentChecks : Bool → List ℕ → List Check
 fragmentChecks starts p =

@@ -12,7 +12,7 @@
 //      30         ImageData, at offset 0
 ghost use mathlib.Core.Path.{_≡_};
 ghost use Rattle.packet.specs.Checks.{firstOf};
-ghost use Rattle.packet.specs.Fragment.{taken, headerOf, imageData, offsetOf, outside, fragmentFrame, fragmentChecks, startFragment, continuationFragment, readFragment};
+ghost use Rattle.packet.specs.Fragment.{takesType, headerOf, imageData, offsetOf, outside, fragmentFrame, fragmentChecks, startFragment, continuationFragment, readFragment};
 use super::continuation;
 use super::continuation::Continuation;
 use super::frame;
@@ -90,7 +90,7 @@ fn offset(packet: &[u8], starts: bool) -> i32
 }
 
 fn is_taken(kind: u8) -> bool
-    ensures { λ r. ⌜ r ≡ taken kind ⌝ }
+    ensures { λ r. ⌜ r ≡ takesType kind ⌝ }
 {
     if kind == Start::TYPE {
         return true;

@@ -32,7 +32,7 @@ use Rattle.packet.specs.Rtp.{unusedZero, rtpHolds}
 use Rattle.packet.specs.Frame.{frameChecks}
 use Rattle.packet.specs.Position.{positionChecks, positionOf, readPosition}
 use Rattle.packet.specs.Continuation.{continuationOf}
-use Rattle.packet.specs.Fragment.{taken, headerOf as fragmentHeader, imageData, offsetOf, outside, fragmentFrame, fragmentChecks, fragmentStatus}
+use Rattle.packet.specs.Fragment.{takesType, headerOf as fragmentHeader, imageData, offsetOf, outside, fragmentFrame, fragmentChecks, fragmentStatus}
 use Rattle.limits.specs.declared.hex.Digits.{Digits}
 use Rattle.limits.specs.declared.hex.Digits.the-variants as hexadecimal
 use Rattle.limits.specs.Range.{within}
@@ -159,7 +159,7 @@ unfolding
     allBelow number distance isNewer signed
     rolesOf roleOf lengthsOf lengthOk knownCommand fieldOf withField emptyOf headerOf hasNeeded isComplete tlvAt lastOf tlvsFrom readMessage portOf
     firstOf unusedZero rtpHolds frameChecks positionChecks positionOf readPosition
-    taken fragmentHeader imageData continuationOf offsetOf outside fragmentFrame fragmentChecks
+    takesType fragmentHeader imageData continuationOf offsetOf outside fragmentFrame fragmentChecks
     within digitValue isDigit hexNumber readDigits
     isEvent carried otherSource optionsFrom sourceAfter accepted stepOf
 examples-hold = refl

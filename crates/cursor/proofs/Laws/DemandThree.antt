@@ -28,7 +28,7 @@ use Rattle.cursor.specs.declared.picture.Picture.{Picture}
 use Rattle.cursor.specs.declared.storing.StoreAnswer.the-variants.{Accepted}
 use Rattle.cursor.specs.declared.completeness.CompleteAnswer.the-variants.{Yes, No}
 use Rattle.cursor.specs.Picture.{hasRoom, held}
-use Rattle.cursor.specs.Judging.{ofOpened, sameStart, startDiffers, part, bytesDiffer, judging}
+use Rattle.cursor.specs.Judging.{ofOpened, sameStart, startDiffers, part, bytesDiffer, openedRules, judging}
 use Rattle.cursor.specs.Storing.{after, openedFor, clearedFor, imageAfter, marksAfter, withStart, pictureAfter, pointerAfter, outcome, taken}
 use Rattle.cursor.specs.Completeness.{allFilled, completeness}
 use Rattle.cursor.specs.Calls.{State, Call, fragment, other, isAccepted, answered, next, run, covers, RefusalKeeps}
@@ -126,7 +126,7 @@ module _ (w : Whole) (s : State) (a : Start) (o : OpenedAs w s) (u : s .picture 
           go false e = refl
 
   judged : firstOf (judging (s .picture) f ds (s .image) (s .marks)) ≡ status.Accepted
-  unfolding firstOf judging
+  unfolding firstOf judging openedRules
   judged =
       let r : hasRoom (f .total) (length (s .image)) (length (s .marks)) ≡ true = rw (c .same-total) room in
       let t = eq-eqb (s .picture .total) (f .total) (o .same-total ∙ sym (c .same-total)) in

@@ -15,11 +15,11 @@ use Rattle.scan.specs.Order.{lesser}
 use Rattle.packet.specs.Checks.{firstOf}
 use Rattle.packet.specs.Frame.{frameChecks}
 use Rattle.packet.specs.Rtp.{rtpHolds, unusedZero}
-use Rattle.packet.specs.Fragment.{taken, headerOf, imageData, offsetOf, outside, fragmentFrame, fragmentChecks, startFragment, continuationFragment, fragmentOf}
+use Rattle.packet.specs.Fragment.{takesType, headerOf, imageData, offsetOf, outside, fragmentFrame, fragmentChecks, startFragment, continuationFragment, fragmentOf}
 use Rattle.packet.specs.Continuation.{continuationOf, placeOf}
 use Rattle.packet.specs.Start.{startOf, noStart}
 use Rattle.cursor.specs.Picture.{hasRoom, held}
-use Rattle.cursor.specs.Judging.{ofOpened, sameStart, startDiffers, bytesDiffer, judging}
+use Rattle.cursor.specs.Judging.{ofOpened, sameStart, startDiffers, bytesDiffer, openedRules, otherRules, judging}
 use Rattle.cursor.specs.Storing.{openedFor, clearedFor, imageAfter, marksAfter, withStart, pictureAfter, outcome, storeChecks, storeStatus, stored}
 use Rattle.cursor.specs.Calls.{next}
 use Rattle.cursor.specs.DemandThree.{OpenedAs, CutFrom, Taken, Agreeing, SameFragments, DemandThree}
@@ -39,23 +39,23 @@ is-opened = record { opened = refl; same-id = refl; same-total = refl; clear = r
 
 module _ (sequence : ℕ) where
   start-cut : CutFrom whole (start sequence 1)
-  unfolding fragmentChecks fragmentFrame firstOf frameChecks rtpHolds unusedZero number taken headerOf imageData offsetOf outside fragmentOf startFragment
+  unfolding fragmentChecks fragmentFrame firstOf frameChecks rtpHolds unusedZero number takesType headerOf imageData offsetOf outside fragmentOf startFragment
   start-cut = record { well-formed = refl; same-id = refl; same-total = refl; same-bytes = refl }
 
   middle-cut : CutFrom whole (middle sequence)
-  unfolding fragmentChecks fragmentFrame firstOf frameChecks rtpHolds unusedZero number signed taken headerOf imageData continuationOf offsetOf placeOf outside fragmentOf continuationFragment
+  unfolding fragmentChecks fragmentFrame firstOf frameChecks rtpHolds unusedZero number signed takesType headerOf imageData continuationOf offsetOf placeOf outside fragmentOf continuationFragment
   middle-cut = record { well-formed = refl; same-id = refl; same-total = refl; same-bytes = refl }
 
   last-cut : CutFrom whole (last sequence)
-  unfolding fragmentChecks fragmentFrame firstOf frameChecks rtpHolds unusedZero number signed taken headerOf imageData continuationOf offsetOf placeOf outside fragmentOf continuationFragment
+  unfolding fragmentChecks fragmentFrame firstOf frameChecks rtpHolds unusedZero number signed takesType headerOf imageData continuationOf offsetOf placeOf outside fragmentOf continuationFragment
   last-cut = record { well-formed = refl; same-id = refl; same-total = refl; same-bytes = refl }
 
 forwards-taken : Taken whole opened forwards
-unfolding next stored outcome storeStatus storeChecks held hasRoom judging ofOpened sameStart startDiffers bytesDiffer conflictIn someBelow lesser openedFor clearedFor imageAfter marksAfter withStart pictureAfter splice fragmentChecks fragmentFrame firstOf frameChecks rtpHolds unusedZero number signed taken headerOf imageData startOf noStart continuationOf offsetOf placeOf outside fragmentOf startFragment continuationFragment
+unfolding next stored outcome storeStatus storeChecks held hasRoom judging openedRules otherRules ofOpened sameStart startDiffers bytesDiffer conflictIn someBelow lesser openedFor clearedFor imageAfter marksAfter withStart pictureAfter splice fragmentChecks fragmentFrame firstOf frameChecks rtpHolds unusedZero number signed takesType headerOf imageData startOf noStart continuationOf offsetOf placeOf outside fragmentOf startFragment continuationFragment
 forwards-taken = (start-cut 30, (refl, (middle-cut 31, (last-cut 32, (middle-cut 31, tt)))))
 
 backwards-taken : Taken whole opened backwards
-unfolding next stored outcome storeStatus storeChecks held hasRoom judging ofOpened sameStart startDiffers bytesDiffer conflictIn someBelow lesser openedFor clearedFor imageAfter marksAfter withStart pictureAfter splice fragmentChecks fragmentFrame firstOf frameChecks rtpHolds unusedZero number signed taken headerOf imageData startOf noStart continuationOf offsetOf placeOf outside fragmentOf startFragment continuationFragment
+unfolding next stored outcome storeStatus storeChecks held hasRoom judging openedRules otherRules ofOpened sameStart startDiffers bytesDiffer conflictIn someBelow lesser openedFor clearedFor imageAfter marksAfter withStart pictureAfter splice fragmentChecks fragmentFrame firstOf frameChecks rtpHolds unusedZero number signed takesType headerOf imageData startOf noStart continuationOf offsetOf placeOf outside fragmentOf startFragment continuationFragment
 backwards-taken = (last-cut 7, (start-cut 39, (refl, (middle-cut 2, (start-cut 39, tt)))))
 
 forwards-agree : Agreeing opened forwards

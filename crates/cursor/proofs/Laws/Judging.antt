@@ -13,7 +13,7 @@ use Rattle.packet.specs.declared.fragment.Fragment.{Fragment}
 use Rattle.packet.proofs.Laws.Checks.{both}
 use Rattle.cursor.specs.declared.picture.Picture.{Picture}
 use Rattle.cursor.specs.Picture.{hasRoom, held}
-use Rattle.cursor.specs.Judging.{ofOpened, opens, startDiffers, judging, withSequence, SequenceIgnored, WrapOpens}
+use Rattle.cursor.specs.Judging.{ofOpened, opens, startDiffers, openedRules, otherRules, judging, withSequence, SequenceIgnored, WrapOpens}
 use Rattle.cursor.proofs.Laws.Pointer.{wrap-newer}
 
 pub room-says : (t b m : ℕ) → hasRoom t b m ≡ true → (t ≤ b) × (t ≤ m)
@@ -46,22 +46,19 @@ module _ (n : ℕ) (q : Picture) (f : Fragment) where
   start-same = refl
 
 pub sequence-ignored : SequenceIgnored
-unfolding SequenceIgnored judging firstOf
+unfolding SequenceIgnored judging openedRules firstOf
 sequence-ignored n q f ds image marks h = simp (opened-same n q f, start-same n q f, h)
 
 pub wrap-opens : WrapOpens
-unfolding WrapOpens judging firstOf
+unfolding WrapOpens judging otherRules firstOf
 wrap-opens q f ds image marks o e e′ r = let n : opens q f ≡ true = rw (e, e′) (wrap-newer (q .opened)) in simp (r, o, n)
 
--- the last check refuses, whatever the others do
-not-opened : (a b d : Bool) → accepted (cond a status.NoRoom (cond b status.TotalDiffers (cond d status.Conflict status.NotNewer))) ≡ false
-not-opened true b d = refl
-not-opened false true d = refl
-not-opened false false true = refl
-not-opened false false false = refl
+not-opened : (a : Bool) → accepted (cond a status.NoRoom status.NotNewer) ≡ false
+not-opened true = refl
+not-opened false = refl
 
 pub judged-late
     : (q : Picture) (f : Fragment) (ds image marks : List ℕ) → ofOpened q f ≡ false → opens q f ≡ false
     → accepted (firstOf (judging q f ds image marks)) ≡ false
-unfolding judging firstOf
-judged-late q f ds image marks o n = simp (o, n) (not-opened (not (hasRoom (f .total) (length image) (length marks))) false false)
+unfolding judging otherRules firstOf
+judged-late q f ds image marks o n = simp (o, n) (not-opened (not (hasRoom (f .total) (length image) (length marks))))

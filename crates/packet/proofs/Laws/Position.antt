@@ -20,9 +20,9 @@ module _ (x : Position) (t : Status) where
   refused true s k e = let bad : _≡_ {A = ℕ} 0 1 = cc in absurd (let no : ⊥ = omega arith in no)
   refused false s k e = (refl, cc, cc)
 
-  taken : (b : Bool) (y : Position) → cond b (Accepted x) (Refused t 0) ≡ Accepted y → (b ≡ true) × (x ≡ y)
-  taken true y e = (refl, cc)
-  taken false y e = let bad : _≡_ {A = ℕ} 0 1 = cc in absurd (let no : ⊥ = omega arith in no)
+  accepted-as : (b : Bool) (y : Position) → cond b (Accepted x) (Refused t 0) ≡ Accepted y → (b ≡ true) × (x ≡ y)
+  accepted-as true y e = (refl, cc)
+  accepted-as false y e = let bad : _≡_ {A = ℕ} 0 1 = cc in absurd (let no : ⊥ = omega arith in no)
 
 pub read-refused
     : (p : List ℕ) (s : Status) (k : ℕ) → readPosition p ≡ Refused s k
@@ -33,4 +33,4 @@ read-refused p s k e = refused (positionOf p) (firstOf (positionChecks p)) (acce
 pub read-accepted
     : (p : List ℕ) (y : Position) → readPosition p ≡ Accepted y → (accepted (firstOf (positionChecks p)) ≡ true) × (positionOf p ≡ y)
 unfolding readPosition
-read-accepted p y e = taken (positionOf p) (firstOf (positionChecks p)) (accepted (firstOf (positionChecks p))) y e
+read-accepted p y e = accepted-as (positionOf p) (firstOf (positionChecks p)) (accepted (firstOf (positionChecks p))) y e

@@ -1,0 +1,20 @@
+-- The test is the definition's. Assumes nothing.
+use borrow.Author.Needs.{needs}
+use Rattle.packet.specs.Checks.{firstOf}
+use Rattle.cursor.specs.Judging.{otherRules}
+use Rattle.cursor.proofs.judging.judge_other.Statement.{statement}
+use Rattle.cursor.proofs.judging.judge_other.Tie as tie
+
+newer-requires : tie.Need-newer-requires
+newer-requires c κs = search needs
+
+returns : tie.Need-returns
+unfolding firstOf otherRules
+returns c = simp (← c .before .newer .ensures, c .if1 .taken)
+
+returns-2 : tie.Need-returns-2
+unfolding firstOf otherRules
+returns-2 c = simp (← c .before .newer .ensures, c .if1 .left)
+
+pub judge-other-spec : {M : Type 1} → statement M
+judge-other-spec = tie.close (tie.spec newer-requires returns returns-2)
