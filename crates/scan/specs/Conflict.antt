@@ -9,9 +9,9 @@ use Rattle.scan.specs.Empty.{filledAt}
 use Rattle.scan.specs.Order.{lesser}
 
 -- the place i is filled and would get another byte
-abbrev pub clashAt : List ℕ → List ℕ → List ℕ → ℕ → Bool
-clashAt marks old new i = filledAt marks i && not (eqb (getD old i 0) (getD new i 0))
+abbrev pub conflictAt : List ℕ → List ℕ → List ℕ → ℕ → Bool
+conflictAt marks old new i = filledAt marks i && not (eqb (getD old i 0) (getD new i 0))
 
 -- some place would, as far as all three lists go
 unfoldable pub conflictIn : List ℕ → List ℕ → List ℕ → Bool
-conflictIn marks old new = someBelow (lesser (length marks) (lesser (length old) (length new))) (clashAt marks old new)
+conflictIn marks old new = someBelow (lesser (length marks) (lesser (length old) (length new))) (conflictAt marks old new)

@@ -3,14 +3,14 @@ ghost use mathlib.Core.Path.{_≡_};
 ghost use Prim.Native.Nat.{_≤_};
 ghost use lib.ListN.{length};
 ghost use Rattle.scan.specs.Below.{someBelow};
-ghost use Rattle.scan.specs.Conflict.{clashAt, conflictIn};
+ghost use Rattle.scan.specs.Conflict.{conflictAt, conflictIn};
 ghost use Rattle.scan.specs.Empty.{filledAt};
 use super::order::least;
 use super::order::least_length;
 use super::order::most;
 
 // Whether one of the first n marks is not 0. Each is read, and nothing leaves the loop.
-fn touched(marks: &[u8], n: usize) -> bool
+fn any_filled(marks: &[u8], n: usize) -> bool
     requires { ⌜ n ≤ length (now marks) ⌝ }
     ensures { λ r. ⌜ r ≡ someBelow n (filledAt (now (marks .entry))) ⌝ }
 {
@@ -24,9 +24,9 @@ fn touched(marks: &[u8], n: usize) -> bool
 }
 
 // Whether one of the first n places is filled and holds another byte than the new one. Each byte is read, and nothing leaves the loop.
-fn differing(marks: &[u8], old: &[u8], new: &[u8], n: usize) -> bool
+fn any_conflict(marks: &[u8], old: &[u8], new: &[u8], n: usize) -> bool
     requires { ⌜ (n ≤ length (now marks)) × (n ≤ length (now old)) × (n ≤ length (now new)) ⌝ }
-    ensures { λ r. ⌜ r ≡ someBelow n (clashAt (now (marks .entry)) (now (old .entry)) (now (new .entry))) ⌝ }
+    ensures { λ r. ⌜ r ≡ someBelow n (conflictAt (now (marks .entry)) (now (old .entry)) (now (new .entry))) ⌝ }
 {
     let mut high: u8 = 0;
     let mut k = 0;
@@ -43,8 +43,8 @@ pub fn found(marks: &[u8], old: &[u8], new: &[u8]) -> bool
     ensures { λ r. ⌜ r ≡ conflictIn (now (marks .entry)) (now (old .entry)) (now (new .entry)) ⌝ }
 {
     let n = least_length(marks.len(), least_length(old.len(), new.len()));
-    if touched(marks, n) {
-        differing(marks, old, new, n)
+    if any_filled(marks, n) {
+        any_conflict(marks, old, new, n)
     } else {
         false
     }

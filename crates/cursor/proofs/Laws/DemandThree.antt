@@ -13,7 +13,7 @@ use borrow.Author.Tests.{leb-true, ltb-true, eq-eqb}
 use Rattle.wire.specs.Splice.{splice}
 use Rattle.wire.specs.declared.status.Status.the-variants as status
 use Rattle.wire.proofs.Laws.Splice.{length-splice, getD-splice}
-use Rattle.scan.specs.Conflict.{clashAt, conflictIn}
+use Rattle.scan.specs.Conflict.{conflictAt, conflictIn}
 use Rattle.scan.specs.Empty.{filledAt}
 use Rattle.scan.specs.Order.{lesser}
 use Rattle.scan.proofs.Laws.Below.{below-none}
@@ -99,7 +99,7 @@ module _ (w : Whole) (s : State) (a : Start) (o : OpenedAs w s) (u : s .picture 
 
   bytes-agree : bytesDiffer (f .offset) ds (s .image) (s .marks) ≡ false
   unfolding bytesDiffer conflictIn
-  bytes-agree = below-none n (clashAt ms is ds) (λ k l. no-clash k (omega (arith, below)))
+  bytes-agree = below-none n (conflictAt ms is ds) (λ k l. no-conflict k (omega (arith, below)))
     where
       is : List ℕ
       is = part (f .offset) (length ds) (s .image)
@@ -116,8 +116,8 @@ module _ (w : Whole) (s : State) (a : Start) (o : OpenedAs w s) (u : s .picture 
           let y = lesser-le (length is) (length ds) in
           omega arith
 
-      no-clash : (k : ℕ) → k < length ds → clashAt ms is ds k ≡ false
-      no-clash k l = rw (part-byte (s .marks) k l, part-byte (s .image) k l) (go (filledAt (s .marks) (f .offset + k)) refl)
+      no-conflict : (k : ℕ) → k < length ds → conflictAt ms is ds k ≡ false
+      no-conflict k l = rw (part-byte (s .marks) k l, part-byte (s .image) k l) (go (filledAt (s .marks) (f .offset + k)) refl)
         where
           go : (b : Bool) → filledAt (s .marks) (f .offset + k) ≡ b → (b && not (eqb (getD (s .image) (f .offset + k) 0) (getD ds k 0))) ≡ false
           go true e =

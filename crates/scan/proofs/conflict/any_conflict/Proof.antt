@@ -1,4 +1,4 @@
--- The greatest clash passed is not 0 exactly if there was one. Assumes nothing.
+-- The greatest conflict passed is not 0 exactly if there was one. Assumes nothing.
 use Prim.Native.Nat.{_-_, _≤_}
 use mathlib.Core.Path.{_≡_, refl, _∙_}
 use mathlib.Core.Bool.{not}
@@ -8,14 +8,14 @@ use lib.Dec.{eqb}
 use borrow.Author.Needs.{needs}
 use denote.Ref.{now}
 use Rattle.scan.specs.Below.{someBelow}
-use Rattle.scan.specs.Conflict.{clashAt}
+use Rattle.scan.specs.Conflict.{conflictAt}
 use Rattle.scan.proofs.Laws.Below.{greater-step}
-use Rattle.scan.proofs.Laws.Conflict.{lesser-clash}
-use Rattle.scan.proofs.conflict.differing.Statement.{statement}
-use Rattle.scan.proofs.conflict.differing.Tie as tie
+use Rattle.scan.proofs.Laws.Conflict.{lesser-conflict}
+use Rattle.scan.proofs.conflict.any_conflict.Statement.{statement}
+use Rattle.scan.proofs.conflict.any_conflict.Tie as tie
 
 abbrev Inv-loop : tie.InvT-loop
-Inv-loop marks old new n high₀ k₀ high k = (k ≤ n) × (not (eqb high 0) ≡ someBelow k (clashAt marks old new))
+Inv-loop marks old new n high₀ k₀ high k = (k ≤ n) × (not (eqb high 0) ≡ someBelow k (conflictAt marks old new))
 
 abbrev μ-loop : tie.MeasureT-loop
 μ-loop marks old new n high₀ k₀ high k = n - k
@@ -52,9 +52,9 @@ loop-again c =
     let l = h .before .loop in
     let a = h .before .before .before .before .before .args in
     let k = l .k in
-    let g : not (eqb (f .least .result) 0) ≡ clashAt (now (a .marks)) (now (a .old)) (now (a .new)) k
-    = rw (f .least .ensures) (lesser-clash (getD (now (a .marks)) k 0) (getD (now (a .old)) k 0) (getD (now (a .new)) k 0)) in
-    (omega arith, greater-step k (clashAt (now (a .marks)) (now (a .old)) (now (a .new))) (l .high) (f .least .result) (c .most .result) (l .inv .1) (c .most .ensures) g)
+    let g : not (eqb (f .least .result) 0) ≡ conflictAt (now (a .marks)) (now (a .old)) (now (a .new)) k
+    = rw (f .least .ensures) (lesser-conflict (getD (now (a .marks)) k 0) (getD (now (a .old)) k 0) (getD (now (a .new)) k 0)) in
+    (omega arith, greater-step k (conflictAt (now (a .marks)) (now (a .old)) (now (a .new))) (l .high) (f .least .result) (c .most .result) (l .inv .1) (c .most .ensures) g)
 
 returns : tie.Need-returns Inv-loop μ-loop
 returns c =
@@ -62,8 +62,8 @@ returns c =
     let e : l .k ≡ c .before .before .before .before .before .args .n = omega arith in
     l .inv .1 ∙ rw e
 
-pub differing-spec : {M : Type 1} → statement M
-differing-spec =
+pub any-conflict-spec : {M : Type 1} → statement M
+any-conflict-spec =
     tie.close
     (tie.spec
     Inv-loop

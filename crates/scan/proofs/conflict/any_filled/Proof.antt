@@ -10,8 +10,8 @@ use denote.Ref.{now}
 use Rattle.scan.specs.Below.{someBelow}
 use Rattle.scan.specs.Empty.{filledAt}
 use Rattle.scan.proofs.Laws.Below.{greater-step}
-use Rattle.scan.proofs.conflict.touched.Statement.{statement}
-use Rattle.scan.proofs.conflict.touched.Tie as tie
+use Rattle.scan.proofs.conflict.any_filled.Statement.{statement}
+use Rattle.scan.proofs.conflict.any_filled.Tie as tie
 
 abbrev Inv-loop : tie.InvT-loop
 Inv-loop marks n high₀ k₀ high k = (k ≤ n) × (not (eqb high 0) ≡ someBelow k (filledAt marks))
@@ -48,7 +48,7 @@ returns c =
     let e : l .k ≡ c .before .before .before .args .n = omega arith in
     l .inv .1 ∙ rw e
 
-pub touched-spec : {M : Type 1} → statement M
-touched-spec =
+pub any-filled-spec : {M : Type 1} → statement M
+any-filled-spec =
     tie.close
     (tie.spec Inv-loop μ-loop loop-holds shared-slice-read-most most-requires add-k loop-less loop-again returns)
