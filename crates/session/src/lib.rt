@@ -2,6 +2,6 @@
 pub mod in_place;
 pub mod message_step;
 pub mod record;
-pub mod source;
+mod source;
 pub mod step;
-pub mod table;
+mod table;

@@ -37,7 +37,7 @@ impl Session {
 }
 
 // Whether a state is any but Closed.
-pub fn is_open(state: State) -> bool
+pub(crate) fn is_open(state: State) -> bool
     ensures { λ r. ⌜ r ≡ isOpen state ⌝ }
 {
     match state {

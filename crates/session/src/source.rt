@@ -6,7 +6,7 @@ use crate::record::is_open;
 use message::accessors::SourceId;
 
 // Whether two Source IDs have the same 16 bytes.
-pub fn same(a: &[u8; 16], b: &[u8; 16]) -> bool
+pub(crate) fn same(a: &[u8; 16], b: &[u8; 16]) -> bool
     ensures { λ r. ⌜ r ≡ sameBytes (now (a .entry)) (now (b .entry)) ⌝ }
 {
     let mut k = 0;
@@ -20,7 +20,7 @@ pub fn same(a: &[u8; 16], b: &[u8; 16]) -> bool
 }
 
 // Whether the event is a message that carries a Source ID: the commands are 1 to 6.
-pub fn carries(event: u8, source: SourceId) -> bool
+pub(crate) fn carries(event: u8, source: SourceId) -> bool
     ensures { λ r. ⌜ r ≡ carried event source ⌝ }
 {
     if !source.present {
@@ -33,7 +33,7 @@ pub fn carries(event: u8, source: SourceId) -> bool
 }
 
 // Whether, in an open state, the event is a message that carries another Source ID than the kept one.
-pub fn is_other(session: Session, event: u8, source: SourceId) -> bool
+pub(crate) fn is_other(session: Session, event: u8, source: SourceId) -> bool
     ensures { λ r. ⌜ r ≡ otherSource session event source ⌝ }
 {
     let state = session.state;

@@ -102,7 +102,7 @@ fn accept(
 }
 
 // An event or a message is refused; the session is given.
-pub fn refuse(status: Status, place: usize, session: Session) -> Stepped
+pub(crate) fn refuse(status: Status, place: usize, session: Session) -> Stepped
     ensures { λ r. ⌜ r ≡ refused status place session ⌝ }
 {
     Stepped {

@@ -126,7 +126,7 @@ fn pin_wrong(state: State) -> Next
 }
 
 // What the event does in the state.
-pub fn expected(event: u8, state: State) -> Next
+pub(crate) fn expected(event: u8, state: State) -> Next
     ensures { λ r. ⌜ r ≡ expectedOf event state ⌝ }
 {
     match event {
