@@ -7,10 +7,10 @@
 
 mod cursor;
 mod limits;
-mod messages;
 mod packets;
 mod replay;
 mod session;
+mod vectors;
 mod wire;
 
 use std::io::{self, Write};
@@ -23,7 +23,7 @@ type Contents = fn() -> Vec<u8>;
 /// The stored files, each with what it must hold.
 const FILES: [(&str, Contents); 7] = [
     ("wire_run/stdout", || wire::lines().into()),
-    ("message_run/stdout", || messages::lines().into()),
+    ("vectors/stdout", || vectors::lines().into()),
     ("session_run/stdout", || session::lines().into()),
     ("limits_run/stdout", || limits::lines().into()),
     ("cursor_run/stdout", || cursor::lines().into()),

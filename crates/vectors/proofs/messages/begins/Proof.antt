@@ -4,8 +4,8 @@ use native.Mathlib.Omega.{arith}
 use borrow.Author.Needs.{needs}
 use denote.Ref.{now}
 use lib.Seq.{length-take-le}
-use Rattle.message_run.proofs.begins.Statement.{statement}
-use Rattle.message_run.proofs.begins.Tie as tie
+use Rattle.vectors.proofs.messages.begins.Statement.{statement}
+use Rattle.vectors.proofs.messages.begins.Tie as tie
 
 slice-aggregate-same : tie.Need-slice-aggregate-same
 slice-aggregate-same c = let a = c .before .before .before .before .args in sym (length-take-le (a .n) (now (a .out)) (omega arith))

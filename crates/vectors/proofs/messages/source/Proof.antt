@@ -2,8 +2,8 @@
 use Prim.Native.Nat.{_≤_, _-_}
 use native.Mathlib.Omega.{arith}
 use borrow.Author.Needs.{needs}
-use Rattle.message_run.proofs.source.Statement.{statement}
-use Rattle.message_run.proofs.source.Tie as tie
+use Rattle.vectors.proofs.messages.source.Statement.{statement}
+use Rattle.vectors.proofs.messages.source.Tie as tie
 
 abbrev Inv-loop : tie.InvT-loop
 Inv-loop bytes digits k₀ k = k ≤ 16

@@ -1,10 +1,7 @@
-// Reads the messages of section 4 of documents 000 and 001, and 01's P1 to P6, and writes a line for each:
-//
-//     NAME accepted COMMAND port PORT options OPTIONS source ID written same
-//     NAME refused NUMBER place PLACE
-//
-// Numbers are decimal. ID is 32 hexadecimal digits, or `-` where the message has no Source ID. The last word is `same` where writing the
-// record gives the message's bytes back, and `other` where not. The file `stdout` beside src/ was derived by hand from the documents.
+// The messages of section 4 of 000 and 001, and P1 to P6 of 01.
+use crate::print::byte;
+use crate::print::number;
+use crate::print::text;
 use message::accessors;
 use message::reader;
 use message::reader::Answer;
@@ -12,20 +9,6 @@ use message::record::Message;
 use message::writer;
 use message::writer::Written;
 use wire::status;
-
-const OUT: i32 = libc::STDOUT_FILENO;
-
-fn text(bytes: &[u8]) {
-    io::write_all(OUT, bytes);
-}
-
-fn number(n: u64) {
-    io::print_decimal(OUT, n);
-}
-
-fn byte(b: u8) {
-    io::print_hex(OUT, b as u64, 2);
-}
 
 fn source(bytes: &[u8], message: Message) {
     let id = accessors::source_id(bytes, message);
@@ -92,7 +75,8 @@ fn show(name: &[u8], bytes: &[u8]) {
     }
 }
 
-fn main() {
+// Each message in its line.
+pub fn run() {
     // 4.2 and 4.3 print the same bytes in both documents: Source Ready and Stop Projection.
     let source_ready = b"\x00\x3d\x01\x01\
           \x00\x00\x1e\
