@@ -8,6 +8,21 @@ use reference::message::{read, write, Record, Span, Tlv};
 use reference::session::{on_message, Session, State};
 use reference::{limits, listing};
 
+/// The bytes, once in `one_in` times with one of the first `places` changed; then now and then cut
+/// or lengthened.
+fn damaged(random: &mut Random, mut bytes: Vec<u8>, one_in: usize, places: usize) -> Vec<u8> {
+    if random.below(one_in) == 0 {
+        let place = random.below(places);
+        bytes[place] = random.byte();
+    }
+    match random.below(16) {
+        0 => bytes.truncate(random.below(bytes.len() + 1)),
+        1 => bytes.push(random.byte()),
+        _ => {}
+    }
+    bytes
+}
+
 /// A message with few faults, or none.
 fn random_message(random: &mut Random) -> Vec<u8> {
     let own: [&[u8]; 6] = [&[0, 2, 3], &[0, 3], &[3, 4], &[0, 3, 5], &[3, 6], &[3, 6, 7]];
@@ -34,17 +49,9 @@ fn random_message(random: &mut Random) -> Vec<u8> {
             tlv(kind, &random.bytes(length))
         })
         .collect();
-    let mut bytes = message(command, &tlvs);
-    if random.below(4) == 0 {
-        let place = random.below(bytes.len());
-        bytes[place] = random.byte();
-    }
-    match random.below(16) {
-        0 => bytes.truncate(random.below(bytes.len() + 1)),
-        1 => bytes.push(random.byte()),
-        _ => {}
-    }
-    bytes
+    let bytes = message(command, &tlvs);
+    let places = bytes.len();
+    damaged(random, bytes, 4, places)
 }
 
 #[test]
@@ -188,7 +195,7 @@ fn random_packet(random: &mut Random) -> Vec<u8> {
     let length = random.below(4);
     let data: Vec<u8> = (0..length).map(|_| random.below(2) as u8).collect();
     let fields = Start { image_type: random.below(2) as u8, ..START };
-    let mut bytes = match random.below(8) {
+    let bytes = match random.below(8) {
         0 => position(sequence, 1, 2),
         1..=3 => start(sequence, id, total, fields, &data),
         _ => {
@@ -196,16 +203,7 @@ fn random_packet(random: &mut Random) -> Vec<u8> {
             continuation(sequence, id, total, offset, &data)
         }
     };
-    if random.below(8) == 0 {
-        let place = random.below(16);
-        bytes[place] = random.byte();
-    }
-    match random.below(16) {
-        0 => bytes.truncate(random.below(bytes.len() + 1)),
-        1 => bytes.push(random.byte()),
-        _ => {}
-    }
-    bytes
+    damaged(random, bytes, 8, 16)
 }
 
 #[test]
