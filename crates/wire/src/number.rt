@@ -17,8 +17,23 @@ fn byte(s: &[u8], at: usize, k: usize) -> u8
     0
 }
 
-// The number in the n bytes from `at`: the reading that every width shares.
-fn read(s: &[u8], at: usize, n: usize) -> u32
+// The number in the n bytes from `at`, where all of them are there.
+fn whole(s: &[u8], at: usize, n: usize) -> u32
+    requires { ⌜ (n ≤ 4) × (at + n ≤ length (now s)) ⌝ }
+    ensures { λ r. ⌜ (r ≡ number n (now (s .entry)) at) × (r < 256 ^ n) ⌝ }
+{
+    let mut value: u32 = 0;
+    let mut k = 0;
+    while k < n {
+        let b = s[at + k] as u32;
+        value = 256 * value + b;
+        k += 1;
+    }
+    value
+}
+
+// The number in the n bytes from `at`, where the bytes may end before.
+fn padded(s: &[u8], at: usize, n: usize) -> u32
     requires { ⌜ n ≤ 4 ⌝ }
     ensures { λ r. ⌜ (r ≡ number n (now (s .entry)) at) × (r < 256 ^ n) ⌝ }
 {
@@ -30,6 +45,19 @@ fn read(s: &[u8], at: usize, n: usize) -> u32
         k += 1;
     }
     v
+}
+
+// The number in the n bytes from `at`: the reading that every width shares. One test finds whether all of them are there.
+fn read(s: &[u8], at: usize, n: usize) -> u32
+    requires { ⌜ n ≤ 4 ⌝ }
+    ensures { λ r. ⌜ (r ≡ number n (now (s .entry)) at) × (r < 256 ^ n) ⌝ }
+{
+    if at < s.len() {
+        if n <= s.len() - at {
+            return whole(s, at, n);
+        }
+    }
+    padded(s, at, n)
 }
 
 // The number in the byte at `at`, or 0 past the end.

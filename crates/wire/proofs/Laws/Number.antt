@@ -5,6 +5,9 @@ use mathlib.Core.List.{List, [], _∷_, _++_}
 use native.Mathlib.Omega.{arith}
 use lib.ListN.{length, getD, drop, set, length-append, length-drop, List·getD-append}
 use lib.Seq.{getD-at, getD-drop, take-suc}
+use lib.Pow.{pow-add}
+use native.Mathlib.Nat.{pow-le-pow-right}
+use native.Mathlib.Numerals.{add-one}
 use borrow.Author.Tests.{le-leb}
 use Rattle.wire.specs.Splice.{splice}
 use Rattle.wire.specs.Number.{number, bytes, written, ReadsBack, WritesBack}
@@ -16,6 +19,20 @@ pub number-same
 unfolding number
 number-same zero s t at to e = refl
 number-same (suc n) s t at to e = rw (number-same n s t at to (λ k h. e k (omega arith)), e n (omega arith))
+
+-- reading takes the first byte first: the number v in k bytes, and the byte b after them
+pub number-next : (s : List ℕ) (k at v b : ℕ) → v ≡ number k s at → b ≡ getD s (at + k) 0 → 256 * v + b ≡ number (k + 1) s at
+unfolding number
+number-next s k at v b p q = rw (add-one) (omega arith)
+
+pub next-small : (k v b : ℕ) → v < 256 ^ k → b < 256 → 256 * v + b < 256 ^ (k + 1)
+next-small k v b p q = rw (pow-add 256 k 1) (omega arith)
+
+-- four bytes or fewer fit in 32 bits
+pub next-fits : (k v b : ℕ) → k < 4 → v < 256 ^ k → b < 256 → 256 * v + b < 4294967296
+next-fits k v b h p q =
+    let up : 256 ^ (k + 1) ≤ 256 ^ 4 = pow-le-pow-right (omega arith) {i = k + 1} {j = 4} (omega arith) in
+    omega (arith, next-small k v b p q)
 
 pub length-bytes : (n v : ℕ) → length (bytes n v) ≡ n
 unfolding bytes

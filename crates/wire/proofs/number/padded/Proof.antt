@@ -1,29 +1,13 @@
 -- After k bytes v is the number in them, and small enough for the next one. Assumes nothing.
-use Prim.Native.Nat.{ℕ, _≤_, _<_, _-_, _^_, _+_, _*_}
-use mathlib.Core.List.{List}
+use Prim.Native.Nat.{ℕ, _≤_, _<_, _-_, _^_}
 use mathlib.Core.Path.{_≡_, refl, ap, _∙_, subst}
-use lib.ListN.{getD}
-use lib.Pow.{pow-add}
-use native.Mathlib.Nat.{pow-le-pow-right}
-use native.Mathlib.Numerals.{add-one}
 use native.Mathlib.Omega.{arith}
 use borrow.Author.Needs.{needs}
 use denote.Ref.{now}
 use Rattle.wire.specs.Number.{number}
-use Rattle.wire.proofs.number.read.Statement.{statement}
-use Rattle.wire.proofs.number.read.Tie as tie
-
-step : (s : List ℕ) (k at v b : ℕ) → v ≡ number k s at → b ≡ getD s (at + k) 0 → 256 * v + b ≡ number (k + 1) s at
-unfolding number
-step s k at v b p q = rw (add-one) (omega arith)
-
-more : (k v b : ℕ) → v < 256 ^ k → b < 256 → 256 * v + b < 256 ^ (k + 1)
-more k v b p q = rw (pow-add 256 k 1) (omega arith)
-
-room : (k v b : ℕ) → k < 4 → v < 256 ^ k → b < 256 → 256 * v + b < 4294967296
-room k v b h p q =
-    let up : 256 ^ (k + 1) ≤ 256 ^ 4 = pow-le-pow-right (omega arith) {i = k + 1} {j = 4} (omega arith) in
-    omega (arith, more k v b p q)
+use Rattle.wire.proofs.Laws.Number.{number-next, next-small, next-fits}
+use Rattle.wire.proofs.number.padded.Statement.{statement}
+use Rattle.wire.proofs.number.padded.Tie as tie
 
 abbrev Inv-loop : tie.InvT-loop
 Inv-loop s at n v₀ k₀ v k = (k ≤ n) × (v ≡ number k s at) × (v < 256 ^ k)
@@ -42,10 +26,10 @@ cast-b : tie.Need-cast-b Inv-loop μ-loop
 cast-b c = search needs
 
 mul-v : tie.Need-mul-v Inv-loop μ-loop
-mul-v c = let l = c .before .before .loop in omega (arith, room (l .k) (l .v) 0 (omega arith) (l .inv .2) (omega arith))
+mul-v c = let l = c .before .before .loop in omega (arith, next-fits (l .k) (l .v) 0 (omega arith) (l .inv .2) (omega arith))
 
 add-v : tie.Need-add-v Inv-loop μ-loop
-add-v c = let l = c .before .before .loop in omega (arith, room (l .k) (l .v) (c .byte .result) (omega arith) (l .inv .2) (omega arith))
+add-v c = let l = c .before .before .loop in omega (arith, next-fits (l .k) (l .v) (c .byte .result) (omega arith) (l .inv .2) (omega arith))
 
 add-k : tie.Need-add-k Inv-loop μ-loop
 add-k c = omega arith
@@ -56,7 +40,7 @@ loop-less c = omega arith
 loop-again : tie.Need-loop-again Inv-loop μ-loop
 loop-again c =
     let l = c .before .before .loop in
-    (omega arith, step _ (l .k) _ _ _ (l .inv .1) (c .byte .ensures), more (l .k) (l .v) _ (l .inv .2) (omega arith))
+    (omega arith, number-next _ (l .k) _ _ _ (l .inv .1) (c .byte .ensures), next-small (l .k) (l .v) _ (l .inv .2) (omega arith))
 
 returns : tie.Need-returns Inv-loop μ-loop
 returns c =
@@ -65,8 +49,8 @@ returns c =
     let e : l .k ≡ a .n = omega arith in
     (l .inv .1 ∙ ap (λ (m : ℕ). number m (now (a .s)) (a .at)) e, subst (λ (m : ℕ). l .v < 256 ^ m) e (l .inv .2))
 
-pub read-spec : {M : Type 1} → statement M
-read-spec =
+pub padded-spec : {M : Type 1} → statement M
+padded-spec =
     tie.close
     (tie.spec
     Inv-loop
