@@ -6,6 +6,7 @@ use mathlib.Core.Bool.{Bool, true, cond, not}
 use lib.ListN.{length, getD}
 use lib.Dec.{ltb, eqb}
 use Rattle.wire.specs.Number.{number}
+use Rattle.wire.specs.declared.status.Status.{Status}
 use Rattle.wire.specs.declared.status.Status.the-variants as status
 use Rattle.message.specs.declared.record.Field.{Field}
 use Rattle.message.specs.declared.record.Message.{Message}
@@ -13,8 +14,8 @@ use Rattle.message.specs.declared.reader.Answer.{Answer}
 use Rattle.message.specs.declared.reader.Answer.the-variants as answer
 use Rattle.message.specs.declared.reader.Header.{Header}
 use Rattle.message.specs.declared.reader.Header.the-variants as header
-use Rattle.message.specs.declared.reader.Step.{Step}
-use Rattle.message.specs.declared.reader.Step.the-variants as step
+use Rattle.message.specs.declared.reader.Tlv.{Tlv}
+use Rattle.message.specs.declared.reader.Tlv.the-variants as tlv
 use Rattle.message.specs.Rules.{roleOf, foreign, needed, lengthOk, knownCommand}
 use Rattle.wire.specs.Below.{allBelow}
 use Rattle.message.specs.Record.{fieldOf, withField, emptyOf}
@@ -53,15 +54,26 @@ nextAt s at = at + 3 + lengthAt s at
 abbrev pub valueAt : List ℕ → ℕ → Field
 valueAt s at = record { present = true; at = at + 3; len = lengthAt s at }
 
+-- What one TLV gives: the place after it and the record with its value, or the refusal and its place.
+pub data Step : Type 0 where
+  Known : ℕ → Message → Step
+  Refused : Status → ℕ → Step
+
 -- the TLV at `at`, after those of m: the place after it and m with its value, or what it is refused with
 unfoldable pub tlvAt : List ℕ → ℕ → Message → Step
 tlvAt s at m =
-    cond (ltb (length s) (at + 3)) (step.Refused status.TlvTruncated at)
-    (cond (ltb (length s) (nextAt s at)) (step.Refused status.TlvTruncated at)
-    (cond (eqb (roleOf (m .command) (typeAt s at)) foreign) (step.Refused status.TlvUnexpected at)
-    (cond (not (lengthOk (typeAt s at) (lengthAt s at))) (step.Refused status.TlvLength at)
-    (cond (fieldOf m (typeAt s at) .present) (step.Refused status.TlvRepeated at)
-    (step.Known (nextAt s at) (withField m (typeAt s at) (valueAt s at)))))))
+    cond (ltb (length s) (at + 3)) (Refused status.TlvTruncated at)
+    (cond (ltb (length s) (nextAt s at)) (Refused status.TlvTruncated at)
+    (cond (eqb (roleOf (m .command) (typeAt s at)) foreign) (Refused status.TlvUnexpected at)
+    (cond (not (lengthOk (typeAt s at) (lengthAt s at))) (Refused status.TlvLength at)
+    (cond (fieldOf m (typeAt s at) .present) (Refused status.TlvRepeated at)
+    (Known (nextAt s at) (withField m (typeAt s at) (valueAt s at)))))))
+
+-- what the code's answer to the TLV at `at`, after those of m, says: for its type t and the length n of its value, the place after it and m
+-- with that value
+abbrev pub stepOf : ℕ → Message → Tlv → Step
+stepOf at m (tlv.Right t n) = Known (at + 3 + n) (withField m t (record { present = true; at = at + 3; len = n }))
+stepOf at m (tlv.Refused st) = Refused st at
 
 -- if the command needs type t, it is there
 unfoldable pub hasNeeded : Message → ℕ → Bool
@@ -76,8 +88,8 @@ unfoldable pub lastOf : ℕ → Message → Answer
 lastOf n m = cond (isComplete m) (answer.Accepted m) (answer.Refused status.TlvUnexpected n)
 
 abbrev pub goOn : (ℕ → Message → Answer) → Step → Answer
-goOn rest (step.Known at m) = rest at m
-goOn rest (step.Refused st place) = answer.Refused st place
+goOn rest (Known at m) = rest at m
+goOn rest (Refused st place) = answer.Refused st place
 
 -- the TLVs from `at` on, at most k of them: a TLV has three bytes or more, so the number of bytes is enough for k
 unfoldable pub tlvsFrom : ℕ → List ℕ → ℕ → Message → Answer

@@ -2,7 +2,7 @@
 ghost use mathlib.Core.Path.{_≡_};
 ghost use Prim.Native.Nat.{_≤_};
 ghost use lib.ListN.{length};
-ghost use Rattle.message.specs.Reading.{headerOf, tlvAt, hasNeeded, isComplete, lastOf, tlvsFrom, readMessage};
+ghost use Rattle.message.specs.Reading.{headerOf, tlvAt, stepOf, hasNeeded, isComplete, lastOf, tlvsFrom, readMessage};
 use crate::record;
 use crate::record::Field;
 use crate::record::Message;
@@ -22,10 +22,10 @@ enum Header {
     Refused { status: Status },
 }
 
-// What one TLV gives: the place after it and the record with its value, or the refusal and its place.
-enum Step {
-    Known { next: usize, message: Message },
-    Refused { status: Status, place: usize },
+// What one TLV gives: its type and the length of its value, or the refusal, whose place is that of the TLV.
+enum Tlv {
+    Right { kind: u8, len: usize },
+    Refused { status: Status },
 }
 
 // The command of a message, or what its size, version or command is refused with.
@@ -68,53 +68,40 @@ fn read_header(bytes: &[u8]) -> Header
 }
 
 // The TLV at `at`, after those that the record has.
-fn read_tlv(bytes: &[u8], at: usize, message: Message) -> Step
+fn read_tlv(bytes: &[u8], at: usize, message: Message) -> Tlv
     requires { ⌜ at ≤ length (now bytes) ⌝ }
-    ensures { λ r. ⌜ r ≡ tlvAt (now (bytes .entry)) at message ⌝ }
+    ensures { λ r. ⌜ stepOf at message r ≡ tlvAt (now (bytes .entry)) at message ⌝ }
 {
     let left = bytes.len() - at;
     if left < 3 {
-        return Step::Refused {
+        return Tlv::Refused {
             status: Status::TlvTruncated,
-            place: at,
         };
     }
     let kind = bytes[at];
     let len = u16_at(bytes, at + 1) as usize;
     if left - 3 < len {
-        return Step::Refused {
+        return Tlv::Refused {
             status: Status::TlvTruncated,
-            place: at,
         };
     }
     if rules::role(message.command, kind) == rules::FOREIGN {
-        return Step::Refused {
+        return Tlv::Refused {
             status: Status::TlvUnexpected,
-            place: at,
         };
     }
     if !rules::length_ok(kind, len) {
-        return Step::Refused {
+        return Tlv::Refused {
             status: Status::TlvLength,
-            place: at,
         };
     }
     let former = record::field_of(message, kind);
     if former.present {
-        return Step::Refused {
+        return Tlv::Refused {
             status: Status::TlvRepeated,
-            place: at,
         };
     }
-    let value = Field {
-        present: true,
-        at: at + 3,
-        len,
-    };
-    Step::Known {
-        next: at + 3 + len,
-        message: record::with_field(message, kind, value),
-    }
+    Tlv::Right { kind, len }
 }
 
 // Whether the TLV of this type is there, if the command needs it.
@@ -157,7 +144,7 @@ fn last(size: usize, message: Message) -> Answer
     }
 }
 
-// The TLVs after the header, from left to right.
+// The TLVs after the header, from left to right. Each value goes to its field in place: as a whole the record is not moved.
 fn read_tlvs(bytes: &[u8], first: Message) -> Answer
     ensures { λ r. ⌜ r ≡ tlvsFrom (length (now (bytes .entry))) (now (bytes .entry)) 4 first ⌝ }
 {
@@ -165,15 +152,26 @@ fn read_tlvs(bytes: &[u8], first: Message) -> Answer
     let mut message = first;
     while at < bytes.len() {
         match read_tlv(bytes, at, message) {
-            Step::Known {
-                next,
-                message: more,
-            } => {
-                at = next;
-                message = more;
+            Tlv::Right { kind, len } => {
+                let value = Field {
+                    present: true,
+                    at: at + 3,
+                    len,
+                };
+                at = at + 3 + len;
+                match kind {
+                    0 => message.friendly_name = value,
+                    2 => message.rtsp_port = value,
+                    3 => message.source_id = value,
+                    4 => message.security_token = value,
+                    5 => message.security_options = value,
+                    6 => message.pin_challenge = value,
+                    7 => message.pin_reason = value,
+                    _ => {}
+                }
             }
-            Step::Refused { status, place } => {
-                return Answer::Refused { status, place };
+            Tlv::Refused { status } => {
+                return Answer::Refused { status, place: at };
             }
         }
     }

@@ -14,13 +14,12 @@ use Rattle.message.specs.declared.record.Message.{Message}
 use Rattle.message.specs.declared.reader.Answer.{Answer}
 use Rattle.message.specs.declared.reader.Answer.the-variants as answer
 use Rattle.message.specs.declared.reader.Header.{Header}
-use Rattle.message.specs.declared.reader.Step.{Step}
-use Rattle.message.specs.declared.reader.Step.the-variants as step
 use Rattle.message.specs.Rules.{roleOf, foreign, needed, lengthOk, knownCommand}
 use Rattle.message.specs.Record.{fieldOf, withField, emptyOf}
 use Rattle.message.specs.Reading.{sizeIn, versionIn, commandIn, headerOf, typeAt, lengthAt, nextAt, valueAt, tlvAt}
-use Rattle.message.specs.Reading.{hasNeeded, isComplete, lastOf, goOn, tlvsFrom, afterHeader, readMessage}
+use Rattle.message.specs.Reading.{Step, hasNeeded, isComplete, lastOf, goOn, tlvsFrom, afterHeader, readMessage}
 use Rattle.message.specs.Theorems.{Headed, Taken, Reached, Fault, Refusal, Acceptance, RefusedExactly, AcceptedExactly}
+use Rattle.message.specs.Reading as step
 use Rattle.message.specs.Theorems as given
 use Rattle.wire.proofs.Laws.Bool.{by-test, not-both}
 use Rattle.message.proofs.Laws.Rules.{type-small}

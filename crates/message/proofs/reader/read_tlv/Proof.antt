@@ -102,43 +102,27 @@ returns-5 c =
       c .if5 .taken,
     )
 
-add-t9 : tie.Need-add-t9
-add-t9 c = search needs
-
-add-t9-2 : tie.Need-add-t9-2
-add-t9-2 c = search needs
-
-add-t20 : tie.Need-add-t20
-add-t20 c = search needs
-
-with-field-requires : tie.Need-with-field-requires
-with-field-requires c κs = search needs
-
 returns-6 : tie.Need-returns-6
 unfolding tlvAt
 returns-6 c =
-    let u16-at = c .before .before .before .before .before .before .before .before .u16-at in
-    let role = c .before .before .before .before .before .before .role in
-    let if3 = c .before .before .before .before .before .if3 in
-    let length-ok = c .before .before .before .before .length-ok in
-    let if4 = c .before .before .before .if4 in
-    let field-of = c .before .before .field-of in
-    let a = c .before .before .before .before .before .before .before .before .before .before .before .before .args in
-    let long = c .before .before .before .before .before .before .before .before .before .before .if1 .left in
-    let whole = c .before .before .before .before .before .before .before .if2 .left in
+    let u16-at = c .before .before .before .before .before .before .before .u16-at in
+    let role = c .before .before .before .before .before .role in
+    let if3 = c .before .before .before .before .if3 in
+    let length-ok = c .before .before .before .length-ok in
+    let if4 = c .before .before .if4 in
+    let a = c .before .before .before .before .before .before .before .before .before .before .before .args in
     let n = length (now (a .bytes)) in
     let r = u16-at .result in
     simp (
-      le-ltb n (a .at + 3) (omega (arith, long)),
+      le-ltb n (a .at + 3) (omega arith),
       ← u16-at .ensures,
-      le-ltb n (a .at + 3 + r) (omega (arith, long, whole)),
+      le-ltb n (a .at + 3 + r) (omega arith),
       ← role .ensures,
       ne-eqb _ _ (if3 .left),
       ← length-ok .ensures,
       if4 .left,
-      ← field-of .ensures,
-      c .before .if5 .left,
-      ← c .with-field .ensures,
+      ← c .before .field-of .ensures,
+      c .if5 .left,
     )
 
 pub read-tlv-spec : {M : Type 1} → statement M
@@ -158,8 +142,4 @@ read-tlv-spec =
     returns-4
     field-of-requires
     returns-5
-    add-t9
-    add-t9-2
-    add-t20
-    with-field-requires
     returns-6)
