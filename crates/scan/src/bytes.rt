@@ -2,14 +2,16 @@
 ghost use mathlib.Core.Path.{_≡_};
 ghost use lib.ListN.{length, replicate};
 ghost use Rattle.scan.specs.Bytes.{copied};
+use super::equal;
 use super::order::least_length;
 
-// Copies `from` over the first places of `to`, as far as both go.
+// Copies `from` over the first places of `to`, as far as both go. Blocks that hold the same bytes already, before the first other one,
+// are skipped.
 pub fn copy(to: &mut [u8], from: &[u8])
     ensures { λ _. ⌜ now (to .exit) ≡ copied (now (from .entry)) (now (to .entry)) ⌝ }
 {
     let n = least_length(to.len(), from.len());
-    let mut k = 0;
+    let mut k = equal::skip(to, from, n, 0, 512);
     while k < n {
         to[k] = from[k];
         k += 1;

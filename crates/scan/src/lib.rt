@@ -2,4 +2,5 @@
 pub mod bytes;
 pub mod conflict;
 pub mod empty;
+mod equal;
 mod order;

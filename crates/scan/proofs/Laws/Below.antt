@@ -54,3 +54,11 @@ block-more p from k size h e j a b =
           let m : k + (j - k) ≡ j = omega arith in
           subst (λ (i : ℕ). p i ≡ false) m (none-below size (λ i. p (k + i)) e (j - k) (omega arith))
     ]
+
+-- p holds of some number below n where it holds of one in a block of those
+pub some-block : (p : ℕ → Bool) (n at size : ℕ) → at + size ≤ n → someBelow size (λ j. p (at + j)) ≡ true → someBelow n p ≡ true
+some-block p n at size l e = go (someBelow n p) refl
+  where
+    go : (b : Bool) → someBelow n p ≡ b → b ≡ true
+    go true q = refl
+    go false q = let f : someBelow size (λ j. p (at + j)) ≡ false = below-none size (λ j. p (at + j)) (λ j u. none-below n p q (at + j) (omega arith)) in cc

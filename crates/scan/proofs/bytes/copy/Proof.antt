@@ -1,12 +1,14 @@
 -- The first k places hold the bytes of `from`, the others what they held. Assumes nothing.
-use Prim.Native.Nat.{_-_, _≤_}
+use Prim.Native.Nat.{ℕ, _-_, _≤_}
 use mathlib.Core.List.{_++_}
 use mathlib.Core.Path.{_≡_, refl, _∙_}
 use native.Mathlib.Omega.{arith}
 use lib.ListN.{length, take, drop, length-set}
 use borrow.Author.Needs.{needs}
 use denote.Ref.{now}
+use Rattle.scan.specs.Order.{lesser}
 use Rattle.scan.proofs.Laws.Bytes.{copy-more, copy-end}
+use Rattle.scan.proofs.Laws.Equal.{equal-front}
 use Rattle.scan.proofs.Laws.Order.{lesser-le}
 use Rattle.scan.proofs.bytes.copy.Statement.{statement}
 use Rattle.scan.proofs.bytes.copy.Tie as tie
@@ -21,8 +23,21 @@ abbrev μ-loop : tie.MeasureT-loop
 least-length-requires : tie.Need-least-length-requires Inv-loop μ-loop
 least-length-requires c κs = search needs
 
+bounds : (a b n : ℕ) → n ≡ lesser a b → (n ≤ a) × (n ≤ b)
+bounds a b n e = rw e (lesser-le a b)
+
+skip-requires : tie.Need-skip-requires Inv-loop μ-loop
+skip-requires c κs =
+    let b = bounds _ _ _ (c .before .least-length .ensures) in
+    (b, omega arith, omega arith)
+
 loop-holds : tie.Need-loop-holds Inv-loop μ-loop
-loop-holds c = let a = c .before .before .before .args in (omega arith, rw (c .least-length .ensures) (lesser-le (length (now (a .to))) (length (now (a .from)))), refl, refl)
+loop-holds c =
+    let s = c .skip in
+    let n = c .before .before in
+    let a = n .before .before .before .args in
+    let b = bounds _ _ _ (n .least-length .ensures) in
+    (s .ensures .1, b, refl, equal-front (s .result) (now (a .to)) (now (a .from)) (omega arith) (omega arith) (λ j l. s .ensures .2 j (omega arith) l))
 
 shared-slice-read-to : tie.Need-shared-slice-read-to Inv-loop μ-loop
 shared-slice-read-to c = omega arith
@@ -39,7 +54,7 @@ loop-less c = omega arith
 loop-again : tie.Need-loop-again Inv-loop μ-loop
 loop-again c =
     let l = c .before .before .loop in
-    let a = c .before .before .before .before .before .before .args in
+    let a = c .before .before .before .before .before .before .before .before .args in
     (omega arith, l .inv .1, simp length-set (l .inv .2), rw (l .inv .3) (copy-more (l .k) (now (a .from)) (now (a .to)) (omega arith) (omega arith)))
 
 same-length : tie.Need-same-length Inv-loop μ-loop
@@ -48,7 +63,7 @@ same-length c = omega arith
 returns : tie.Need-returns Inv-loop μ-loop
 returns c =
     let l = c .before .loop in
-    let n = c .before .before in
+    let n = c .before .before .before .before in
     let a = n .before .before .before .args in
     let e : l .k ≡ n .least-length .result = omega arith in
     l .inv .3 ∙ copy-end (now (a .from)) (now (a .to)) (l .k) (e ∙ n .least-length .ensures)
@@ -60,6 +75,7 @@ copy-spec =
     Inv-loop
     μ-loop
     least-length-requires
+    skip-requires
     loop-holds
     shared-slice-read-to
     slice-write-to

@@ -1,5 +1,5 @@
 -- The greatest conflict passed is not 0 exactly if there was one. Assumes nothing.
-use Prim.Native.Nat.{_-_, _≤_}
+use Prim.Native.Nat.{_+_, _-_, _≤_}
 use mathlib.Core.Path.{_≡_, refl, _∙_}
 use mathlib.Core.Bool.{not}
 use native.Mathlib.Omega.{arith}
@@ -15,20 +15,30 @@ use Rattle.scan.proofs.conflict.any_conflict.Statement.{statement}
 use Rattle.scan.proofs.conflict.any_conflict.Tie as tie
 
 abbrev Inv-loop : tie.InvT-loop
-Inv-loop marks old new n high₀ k₀ high k = (k ≤ n) × (not (eqb high 0) ≡ someBelow k (conflictAt marks old new))
+Inv-loop marks old new at size high₀ k₀ high k =
+    (k ≤ size) × (not (eqb high 0) ≡ someBelow k (λ j. conflictAt marks old new (at + j)))
 
 abbrev μ-loop : tie.MeasureT-loop
-μ-loop marks old new n high₀ k₀ high k = n - k
+μ-loop marks old new at size high₀ k₀ high k = size - k
 
 loop-holds : tie.Need-loop-holds Inv-loop μ-loop
 unfolding someBelow
 loop-holds c = (omega arith, refl)
 
+add-least : tie.Need-add-least Inv-loop μ-loop
+add-least c = omega arith
+
 shared-slice-read-least : tie.Need-shared-slice-read-least Inv-loop μ-loop
 shared-slice-read-least c = omega arith
 
+add-least-2 : tie.Need-add-least-2 Inv-loop μ-loop
+add-least-2 c = omega arith
+
 shared-slice-read-least-2 : tie.Need-shared-slice-read-least-2 Inv-loop μ-loop
 shared-slice-read-least-2 c = omega arith
+
+add-least-3 : tie.Need-add-least-3 Inv-loop μ-loop
+add-least-3 c = omega arith
 
 shared-slice-read-least-3 : tie.Need-shared-slice-read-least-3 Inv-loop μ-loop
 shared-slice-read-least-3 c = omega arith
@@ -51,15 +61,15 @@ loop-again c =
     let h = f .before .before .before .before in
     let l = h .before .loop in
     let a = h .before .before .before .before .before .args in
-    let k = l .k in
-    let g : not (eqb (f .least .result) 0) ≡ conflictAt (now (a .marks)) (now (a .old)) (now (a .new)) k
-    = rw (f .least .ensures) (lesser-conflict (getD (now (a .marks)) k 0) (getD (now (a .old)) k 0) (getD (now (a .new)) k 0)) in
-    (omega arith, greater-step k (conflictAt (now (a .marks)) (now (a .old)) (now (a .new))) (l .high) (f .least .result) (c .most .result) (l .inv .1) (c .most .ensures) g)
+    let i = a .at + l .k in
+    let g : not (eqb (f .least .result) 0) ≡ conflictAt (now (a .marks)) (now (a .old)) (now (a .new)) i
+    = rw (f .least .ensures) (lesser-conflict (getD (now (a .marks)) i 0) (getD (now (a .old)) i 0) (getD (now (a .new)) i 0)) in
+    (omega arith, greater-step (l .k) (λ j. conflictAt (now (a .marks)) (now (a .old)) (now (a .new)) (a .at + j)) (l .high) (f .least .result) (c .most .result) (l .inv .1) (c .most .ensures) g)
 
 returns : tie.Need-returns Inv-loop μ-loop
 returns c =
     let l = c .before .loop in
-    let e : l .k ≡ c .before .before .before .before .before .args .n = omega arith in
+    let e : l .k ≡ c .before .before .before .before .before .args .size = omega arith in
     l .inv .1 ∙ rw e
 
 pub any-conflict-spec : {M : Type 1} → statement M
@@ -69,8 +79,11 @@ any-conflict-spec =
     Inv-loop
     μ-loop
     loop-holds
+    add-least
     shared-slice-read-least
+    add-least-2
     shared-slice-read-least-2
+    add-least-3
     shared-slice-read-least-3
     least-requires
     most-requires

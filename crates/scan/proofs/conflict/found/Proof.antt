@@ -1,12 +1,11 @@
--- No longer than any of the three; where no mark is set there is no conflict. Assumes nothing.
-use mathlib.Core.Path.{_≡_, sym, _∙_}
+-- No longer than any of the three; both ways compare all of those places. Assumes nothing.
+use mathlib.Core.Path.{_≡_, _∙_}
 use Prim.Native.Nat.{ℕ, _≤_}
+use native.Mathlib.Nat.{zero-add}
 use native.Mathlib.Omega.{arith}
-use denote.Ref.{now}
 use borrow.Author.Needs.{needs}
 use Rattle.scan.specs.Conflict.{conflictIn}
 use Rattle.scan.specs.Order.{lesser}
-use Rattle.scan.proofs.Laws.Conflict.{no-conflict}
 use Rattle.scan.proofs.Laws.Order.{lesser-le}
 use Rattle.scan.proofs.conflict.found.Statement.{statement}
 use Rattle.scan.proofs.conflict.found.Tie as tie
@@ -23,22 +22,22 @@ least-length-requires c κs = search needs
 least-length-requires-2 : tie.Need-least-length-requires-2
 least-length-requires-2 c κs = search needs
 
-any-filled-requires : tie.Need-any-filled-requires
-any-filled-requires c κs = common _ _ _ _ _ (c .before .least-length .ensures) (c .least-length2 .ensures) .0
-
 any-conflict-requires : tie.Need-any-conflict-requires
-any-conflict-requires c κs = let n = c .before .before in common _ _ _ _ _ (n .before .least-length .ensures) (n .least-length2 .ensures)
+any-conflict-requires c κs =
+    let n = c .before in
+    let b = common _ _ _ _ _ (n .before .least-length .ensures) (n .least-length2 .ensures) in
+    (omega arith, omega arith, omega arith)
+
+any-by-blocks-requires : tie.Need-any-by-blocks-requires
+any-by-blocks-requires c κs = let n = c .before in common _ _ _ _ _ (n .before .least-length .ensures) (n .least-length2 .ensures)
 
 returns : tie.Need-returns
 unfolding conflictIn
-returns c = let n = c .before .before .before in c .any-conflict .ensures ∙ rw (n .least-length2 .ensures, n .before .least-length .ensures)
+returns c = let n = c .before .before in c .any-conflict .ensures ∙ simp (zero-add, n .least-length2 .ensures, n .before .least-length .ensures)
 
 returns-2 : tie.Need-returns-2
 unfolding conflictIn
-returns-2 c =
-    let n = c .before .before in
-    let a = n .before .before .before .before .before .args in
-    sym (rw (← n .before .least-length .ensures, ← n .least-length2 .ensures) (no-conflict (n .least-length2 .result) (now (a .marks)) (now (a .old)) (now (a .new)) (sym (c .before .any-filled .ensures) ∙ c .if1 .left)))
+returns-2 c = let n = c .before .before in c .any-by-blocks .ensures ∙ rw (n .least-length2 .ensures, n .before .least-length .ensures)
 
 pub found-spec : {M : Type 1} → statement M
 found-spec =
@@ -46,7 +45,7 @@ found-spec =
     (tie.spec
     least-length-requires
     least-length-requires-2
-    any-filled-requires
     any-conflict-requires
+    any-by-blocks-requires
     returns
     returns-2)
