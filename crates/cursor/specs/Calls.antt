@@ -37,7 +37,7 @@ answered s packet = stored (s .pointer) (s .picture) packet (s .image) (s .marks
 
 -- the host keeps the records that an acceptance returns, and after a refusal those that it has
 abbrev pub kept : StoreAnswer → Pointer → Picture → List ℕ → List ℕ → State
-kept (Accepted p q) p₀ q₀ image marks = record { pointer = p; picture = q; image = image; marks = marks }
+kept (Accepted q p) p₀ q₀ image marks = record { pointer = p; picture = q; image = image; marks = marks }
 kept (Refused s k) p₀ q₀ image marks = record { pointer = p₀; picture = q₀; image = image; marks = marks }
 
 -- the state after one call

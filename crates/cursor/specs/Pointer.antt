@@ -11,6 +11,7 @@ use Rattle.wire.specs.declared.status.Status.the-variants as status
 use Rattle.packet.specs.Checks.{refuse, firstOf, accepted}
 use Rattle.packet.specs.Position.{positionChecks, positionOf}
 use Rattle.cursor.specs.declared.pointer.Pointer.{Pointer}
+use Rattle.cursor.specs.declared.pointer.Positioned.{Positioned}
 use Rattle.cursor.specs.declared.pointer.PointerAnswer.{PointerAnswer}
 use Rattle.cursor.specs.declared.pointer.PointerAnswer.the-variants.{Accepted, Refused}
 
@@ -30,11 +31,20 @@ movedTo p sequence x y = cond (pointerMoves p sequence) (record { known = true; 
 unfoldable pub positionStatus : Pointer → List ℕ → Status
 positionStatus p packet = firstOf (positionChecks packet ++ (refuse status.NotNewer (not (pointerMoves p (positionOf packet .sequence))) ∷ []))
 
+-- the pointer as the packet sets it
+abbrev pub positionedTo : Pointer → List ℕ → Pointer
+positionedTo p packet = movedTo p (positionOf packet .sequence) (positionOf packet .x) (positionOf packet .y)
+
+-- a refusal leaves the pointer as it was
+unfoldable pub movedBy : Pointer → List ℕ → Positioned
+movedBy p packet =
+    record {
+      status = positionStatus p packet;
+      pointer = cond (accepted (positionStatus p packet)) (positionedTo p packet) p;
+    }
+
 unfoldable pub positioned : Pointer → List ℕ → PointerAnswer
-positioned p packet =
-    cond (accepted (positionStatus p packet))
-    (Accepted (movedTo p (positionOf packet .sequence) (positionOf packet .x) (positionOf packet .y)))
-    (Refused (positionStatus p packet) 0)
+positioned p packet = cond (accepted (positionStatus p packet)) (Accepted (positionedTo p packet)) (Refused (positionStatus p packet) 0)
 
 -- Sequence numbers go on from 65,535 to 0: there the pointer moves. The proof stands in proofs/Laws/Pointer.antt.
 unfoldable pub WrapMoves : Type 0

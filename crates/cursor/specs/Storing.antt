@@ -69,7 +69,7 @@ after r image marks = record { answer = r; image = image; marks = marks }
 unfoldable pub outcome : Status → Pointer → Picture → Fragment → List ℕ → List ℕ → List ℕ → After
 outcome s p q f ds image marks =
     cond (accepted s)
-    (after (Accepted (pointerAfter p f) (pictureAfter q f)) (imageAfter f ds image) (marksAfter q f ds marks))
+    (after (Accepted (pictureAfter q f) (pointerAfter p f)) (imageAfter f ds image) (marksAfter q f ds marks))
     (after (Refused s 0) image marks)
 
 -- a fragment judged by itself

@@ -1,9 +1,10 @@
 // The pointer's position, and the call for position packets.
 ghost use mathlib.Core.Path.{_≡_};
-ghost use Rattle.cursor.specs.Pointer.{freshPointer, movedTo, positioned};
+ghost use Rattle.cursor.specs.Pointer.{freshPointer, movedTo, movedBy, positioned};
 use packet::position;
 use packet::position::PositionAnswer;
 use wire::sequence;
+use wire::status;
 use wire::status::Status;
 
 // The pointer's last position, and the sequence number of the packet that set it. Where none is known the other fields are not looked at.
@@ -28,6 +29,12 @@ impl Pointer {
     }
 }
 
+// What a position packet does: the first refusal or Accepted, and the pointer afterwards.
+pub struct Positioned {
+    pub status: Status,
+    pub pointer: Pointer,
+}
+
 pub enum PointerAnswer {
     Accepted(Pointer),
     Refused { status: Status, place: usize },
@@ -48,24 +55,44 @@ pub(crate) fn moved(pointer: Pointer, sequence: u16, x: i16, y: i16) -> Pointer
     pointer
 }
 
+// Takes a position packet: the first refusal in 01's order, where the pointer stays, or Accepted with the pointer as the packet sets it.
+pub fn take(pointer: Pointer, packet: &[u8]) -> Positioned
+    ensures { λ r. ⌜ r ≡ movedBy pointer (now (packet .entry)) ⌝ }
+{
+    match position::read(packet) {
+        PositionAnswer::Refused { status, place } => Positioned {
+            status: status,
+            pointer: pointer,
+        },
+        PositionAnswer::Accepted(position) => {
+            if sequence::newer(pointer.known, pointer.sequence, position.sequence) {
+                Positioned {
+                    status: Status::Accepted,
+                    pointer: moved(pointer, position.sequence, position.x, position.y),
+                }
+            } else {
+                Positioned {
+                    status: Status::NotNewer,
+                    pointer: pointer,
+                }
+            }
+        }
+    }
+}
+
 // The call for positions: takes type 1 only. The answer is the pointer as the packet sets it, or the first refusal in 01's order.
 pub fn position(pointer: Pointer, packet: &[u8]) -> PointerAnswer
     ensures { λ r. ⌜ r ≡ positioned pointer (now (packet .entry)) ⌝ }
 {
-    match position::read(packet) {
-        PositionAnswer::Refused { status, place } => PointerAnswer::Refused {
+    let after = take(pointer, packet);
+    let status = after.status;
+    let moved = after.pointer;
+    if status::number(status) == 0 {
+        PointerAnswer::Accepted(moved)
+    } else {
+        PointerAnswer::Refused {
             status: status,
-            place: place,
-        },
-        PositionAnswer::Accepted(position) => {
-            if sequence::newer(pointer.known, pointer.sequence, position.sequence) {
-                PointerAnswer::Accepted(moved(pointer, position.sequence, position.x, position.y))
-            } else {
-                PointerAnswer::Refused {
-                    status: Status::NotNewer,
-                    place: 0,
-                }
-            }
+            place: 0,
         }
     }
 }

@@ -19,7 +19,7 @@ use wire::status::Status;
 
 // The records as the fragment leaves them, or a refusal, which changes nothing.
 pub enum StoreAnswer {
-    Accepted(Pointer, Picture),
+    Accepted(Picture, Pointer),
     Refused { status: Status, place: usize },
 }
 
@@ -115,7 +115,7 @@ fn take(
     }
     let opened = open_for(picture, fragment, marks);
     put(fragment.offset, data, image, marks);
-    StoreAnswer::Accepted(moved_by(pointer, fragment), with_start(opened, fragment))
+    StoreAnswer::Accepted(with_start(opened, fragment), moved_by(pointer, fragment))
 }
 
 // The call for starts and continuations: takes types 2 and 3 only. The answer is the records as the fragment leaves them, or the first

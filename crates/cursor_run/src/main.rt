@@ -109,7 +109,7 @@ fn call_position(pointer: Pointer, packet: &[u8]) -> Pointer {
 
 fn records_after(answer: StoreAnswer, records: Records) -> Records {
     match answer {
-        StoreAnswer::Accepted(pointer, picture) => {
+        StoreAnswer::Accepted(picture, pointer) => {
             print_status(Status::Accepted);
             Records {
                 pointer: pointer,

@@ -115,7 +115,7 @@ fn call_store(state: State, packet: &[u8]) -> State {
     let mut image = state.image;
     let mut marks = state.marks;
     match cursor::store(pointer, picture, packet, &mut image, &mut marks) {
-        StoreAnswer::Accepted(moved, stored) => {
+        StoreAnswer::Accepted(stored, moved) => {
             print_number(0);
             State {
                 pointer: moved,

@@ -82,7 +82,7 @@ fn store(name: &[u8], state: State, packet: &[u8]) -> State {
     let mut image = state.image;
     let mut marks = state.marks;
     match cursor::store(pointer, picture, packet, &mut image, &mut marks) {
-        StoreAnswer::Accepted(moved, stored) => {
+        StoreAnswer::Accepted(stored, moved) => {
             let next = State {
                 pointer: moved,
                 picture: stored,

@@ -140,7 +140,7 @@ module _ (w : Whole) (s : State) (a : Start) (o : OpenedAs w s) (u : s .picture 
     marks = splice (f .offset) (replicate (length ds) 1) (s .marks);
   }
 
-  answer-is : answered s packet ≡ after (Accepted (then-is .pointer) (then-is .picture)) (then-is .image) (then-is .marks)
+  answer-is : answered s packet ≡ after (Accepted (then-is .picture) (then-is .pointer)) (then-is .image) (then-is .marks)
   unfolding taken outcome openedFor clearedFor imageAfter marksAfter pictureAfter
   answer-is =
       stored-well (s .pointer) (s .picture) packet (s .image) (s .marks) (o .clear) (c .well-formed)

@@ -13,8 +13,9 @@ use Rattle.packet.specs.Position.{positionChecks, positionOf, readPosition}
 use Rattle.packet.proofs.Laws.Checks.{first-append}
 use Rattle.packet.proofs.Laws.Position.{checks-refuse, read-refused, read-accepted}
 use Rattle.cursor.specs.declared.pointer.Pointer.{Pointer}
+use Rattle.cursor.specs.declared.pointer.Positioned.{Positioned}
 use Rattle.cursor.specs.declared.pointer.PointerAnswer.the-variants.{Accepted, Refused}
-use Rattle.cursor.specs.Pointer.{pointerMoves, movedTo, positionStatus, positioned, WrapMoves}
+use Rattle.cursor.specs.Pointer.{pointerMoves, movedTo, positionStatus, movedBy, positioned, WrapMoves}
 
 pub position-status
     : (p : Pointer) (packet : List ℕ)
@@ -25,28 +26,43 @@ unfolding positionStatus firstOf
 position-status p packet = first-append (positionChecks packet) (refuse status.NotNewer (not (pointerMoves p (positionOf packet .sequence))) ∷ []) (checks-refuse packet)
 
 module _ (p : Pointer) (packet : List ℕ) where
-  pub positioned-refused : (s : Status) (k : ℕ) → readPosition packet ≡ position.Refused s k → positioned p packet ≡ Refused s k
-  unfolding positioned
-  positioned-refused s k e =
+  pub moved-refused : (s : Status) (k : ℕ) → readPosition packet ≡ position.Refused s k → movedBy p packet ≡ record { status = s; pointer = p }
+  unfolding movedBy
+  moved-refused s k e =
       let r = read-refused packet s k e in
       let t : positionStatus p packet ≡ s = position-status p packet ∙ simp (r .0) (r .1) in
       let n : accepted s ≡ false = sym (ap accepted (r .1)) ∙ r .0 in
-      simp (t, n, r .2)
+      simp (t, n)
 
   module _ (x : Position) (e : readPosition packet ≡ position.Accepted x) where
-    pub positioned-late : pointerMoves p (x .sequence) ≡ false → positioned p packet ≡ Refused status.NotNewer 0
-    unfolding positioned
-    positioned-late n =
+    pub moved-late : pointerMoves p (x .sequence) ≡ false → movedBy p packet ≡ record { status = status.NotNewer; pointer = p }
+    unfolding movedBy
+    moved-late n =
         let r = read-accepted packet x e in
         let t : positionStatus p packet ≡ status.NotNewer = position-status p packet ∙ simp (r .0, r .1, n) in
         simp t
 
-    pub positioned-moves : pointerMoves p (x .sequence) ≡ true → positioned p packet ≡ Accepted (movedTo p (x .sequence) (x .x) (x .y))
-    unfolding positioned
-    positioned-moves n =
+    pub moved-moves : pointerMoves p (x .sequence) ≡ true
+        → movedBy p packet ≡ record { status = status.Accepted; pointer = movedTo p (x .sequence) (x .x) (x .y) }
+    unfolding movedBy
+    moved-moves n =
         let r = read-accepted packet x e in
         let t : positionStatus p packet ≡ status.Accepted = position-status p packet ∙ simp (r .0, r .1, n) in
         simp (t, r .1)
+
+  -- the call for positions, by what the packet does
+  module _ (m : Positioned) (e : m ≡ movedBy p packet) where
+    pub positioned-accepted : accepted (m .status) ≡ true → positioned p packet ≡ Accepted (m .pointer)
+    unfolding movedBy positioned
+    positioned-accepted h =
+        let a : accepted (positionStatus p packet) ≡ true = ap (λ (x : Positioned). accepted (x .status)) (sym e) ∙ h in
+        rw e (simp a)
+
+    pub positioned-refused : accepted (m .status) ≡ false → positioned p packet ≡ Refused (m .status) 0
+    unfolding movedBy positioned
+    positioned-refused h =
+        let a : accepted (positionStatus p packet) ≡ false = ap (λ (x : Positioned). accepted (x .status)) (sym e) ∙ h in
+        rw e (simp a)
 
 -- 0 after 65,535
 pub wrap-newer : (known : Bool) → isNewer known 65535 0 ≡ true

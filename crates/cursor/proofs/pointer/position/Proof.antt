@@ -1,67 +1,31 @@
--- The packet is refused, or it is not newer, or the pointer moves. Assumes nothing.
-use mathlib.Core.Path.{sym, _∙_}
+-- The status decides, as in the definition. Assumes nothing.
+use mathlib.Core.Path.{sym, ap, _∙_}
 use denote.Ref.{now}
+use borrow.Author.Tests.{eq-eqb, ne-eqb}
 use borrow.Author.Needs.{needs}
-use mir.Syntax.{w16}
-use mir.Val.{SFits}
-use mir.ValLaws.{toZ-ofZ}
-use Rattle.cursor.proofs.Laws.Pointer.{positioned-refused, positioned-late, positioned-moves}
+use Rattle.cursor.proofs.Laws.Pointer.{positioned-accepted, positioned-refused}
 use Rattle.cursor.proofs.pointer.position.Statement.{statement}
 use Rattle.cursor.proofs.pointer.position.Tie as tie
 
-read-requires : tie.Need-read-requires
-read-requires c κs = search needs
+take-requires : tie.Need-take-requires
+take-requires c κs = search needs
 
-enum-known-status : tie.Need-enum-known-status
-enum-known-status c = search needs
-
-enum-known-position : tie.Need-enum-known-position
-enum-known-position c = search needs
-
-newer-requires : tie.Need-newer-requires
-newer-requires c κs = search needs
-
-moved-requires : tie.Need-moved-requires
-moved-requires c κs = search needs
+number-requires : tie.Need-number-requires
+number-requires c κs = search needs
 
 returns : tie.Need-returns
 returns c =
-    let g = c .before in
-    let r = g .before .before in
-    let a = r .before .before .args in
-    sym (positioned-refused (a .pointer) (now (a .packet)) _ _ (sym (r .read .ensures) ∙ g .status .given .1))
-
-told : (c : tie.After-known-told2) → SFits w16 (c .before .position .given .0 .0 .x) × SFits w16 (c .before .position .given .0 .0 .y)
-told c = (search needs, search needs)
+    let n = c .before in
+    let t = n .before .before in
+    let a = t .before .before .args in
+    sym (positioned-accepted (a .pointer) (now (a .packet)) (t .take .result) (t .take .ensures) (eq-eqb _ 0 (sym (n .number .ensures) ∙ c .if1 .taken)))
 
 returns-2 : tie.Need-returns-2
 returns-2 c =
-    let i = c .before .before .before in
-    let n = i .before in
-    let g = n .before .before in
-    let r = g .before .before in
-    let a = r .before .before .args in
-    let x = g .position .given .0 .0 in
-    rw (c .moved .ensures, toZ-ofZ w16 (x .x) (told (n .before) .0), toZ-ofZ w16 (x .y) (told (n .before) .1))
-    (sym (positioned-moves (a .pointer) (now (a .packet)) x (sym (r .read .ensures) ∙ g .position .given .1) (sym (n .newer .ensures) ∙ i .if1 .taken)))
-
-returns-3 : tie.Need-returns-3
-returns-3 c =
     let n = c .before in
-    let g = n .before .before in
-    let r = g .before .before in
-    let a = r .before .before .args in
-    sym (positioned-late (a .pointer) (now (a .packet)) _ (sym (r .read .ensures) ∙ g .position .given .1) (sym (n .newer .ensures) ∙ c .if1 .left))
+    let t = n .before .before in
+    let a = t .before .before .args in
+    sym (positioned-refused (a .pointer) (now (a .packet)) (t .take .result) (t .take .ensures) (ne-eqb _ 0 (λ e. c .if1 .left (n .number .ensures ∙ e))))
 
 pub position-spec : {M : Type 1} → statement M
-position-spec =
-    tie.close
-    (tie.spec
-    read-requires
-    enum-known-status
-    enum-known-position
-    newer-requires
-    moved-requires
-    returns
-    returns-2
-    returns-3)
+position-spec = tie.close (tie.spec take-requires number-requires returns returns-2)

@@ -66,7 +66,7 @@ returns-2 c =
     let n = o .before .before .before in
     let j = n .before in
     simp (ap accepted (sym (j .judge .ensures)) ∙ eq-eqb _ 0 (sym (n .number .ensures) ∙ o .before .before .if1 .left))
-    (rw (c .with-start .ensures, c .before .moved-by .ensures, p .put .ensures .0, p .put .ensures .1, o .open-for .ensures .0, o .open-for .ensures .1))
+    (rw (c .moved-by .ensures, c .before .with-start .ensures, p .put .ensures .0, p .put .ensures .1, o .open-for .ensures .0, o .open-for .ensures .1))
 
 pub take-spec : {M : Type 1} → statement M
 take-spec =
@@ -79,8 +79,8 @@ take-spec =
     returns
     open-for-requires
     put-requires
-    moved-by-requires
     with-start-requires
+    moved-by-requires
     same-length-3
     same-length-4
     returns-2)
