@@ -1,0 +1,4 @@
+pub mod CursorCalls
+pub mod LimitsCalls
+pub mod MessageCalls
+pub mod SessionCalls

@@ -1,0 +1,156 @@
+// The calls of the cursor stream.
+ghost use mathlib.Core.Path.{_≡_};
+ghost use lib.ListN.{length};
+ghost use Rattle.cursor.specs.Pointer.{freshPointer};
+ghost use Rattle.cursor.specs.Picture.{freshPicture};
+ghost use Rattle.records.specs.Layout.{laid};
+ghost use Rattle.records.specs.PointerRecord.{pointerBytes};
+ghost use Rattle.records.specs.PictureRecord.{pictureBytes};
+ghost use Rattle.ashlarsilk.specs.Answers.{accepted, refused};
+ghost use Rattle.ashlarsilk.specs.Fresh.{freshAnswer};
+ghost use Rattle.ashlarsilk.specs.CursorCalls.{afterPosition, cursorPosition, recordsHeld, afterStore, cursorStore, yesOrNo, cursorComplete};
+use crate::answers::Answer;
+use crate::answers::Yes;
+use crate::fresh;
+use cursor::completeness::CompleteAnswer;
+use cursor::picture::Picture;
+use cursor::pointer::Pointer;
+use cursor::storing::StoreAnswer;
+use records::picture_record;
+use records::pointer_record;
+use wire::status;
+use wire::status::Status;
+
+fn accept() -> Answer
+    ensures { λ r. ⌜ r ≡ accepted ⌝ }
+{
+    Answer {
+        status: status::number(Status::Accepted),
+        place: 0,
+    }
+}
+
+fn refuse(status: Status, place: usize) -> Answer
+    ensures { λ r. ⌜ r ≡ refused status place ⌝ }
+{
+    Answer {
+        status: status::number(status),
+        place,
+    }
+}
+
+// Writes that no position is known. Answers 0, or 10 where the pointer's record has fewer than 7 bytes, which then stay as they are.
+#[no_mangle]
+pub extern "C" fn ashlarsilk_pointer_fresh(pointer: &mut [u8]) -> u8
+    ensures answer { λ r. ⌜ r ≡ freshAnswer 7 (length (now (pointer .entry))) ⌝ }
+    ensures bytes { λ _. ⌜ now (pointer .exit) ≡ laid (pointerBytes freshPointer) (now (pointer .entry)) ⌝ }
+{
+    pointer_record::write(pointer, Pointer::fresh());
+    fresh::answer(pointer.len(), pointer_record::LENGTH)
+}
+
+// Writes that no picture is opened. Answers 0, or 10 where the picture's record has fewer than 15 bytes, which then stay as they are.
+#[no_mangle]
+pub extern "C" fn ashlarsilk_picture_fresh(picture: &mut [u8]) -> u8
+    ensures answer { λ r. ⌜ r ≡ freshAnswer 15 (length (now (picture .entry))) ⌝ }
+    ensures bytes { λ _. ⌜ now (picture .exit) ≡ laid (pictureBytes freshPicture) (now (picture .entry)) ⌝ }
+{
+    picture_record::write(picture, Picture::fresh());
+    fresh::answer(picture.len(), picture_record::LENGTH)
+}
+
+// The call for positions. Answers 0 and leaves the position in the pointer's record, or answers the refusal, 10 where that record has fewer
+// than 7 bytes, and changes nothing.
+#[no_mangle]
+pub extern "C" fn ashlarsilk_cursor_position(pointer: &mut [u8], packet: &[u8]) -> Answer
+    ensures { λ r. ⌜ afterPosition r (now (pointer .exit)) ≡ cursorPosition (now (pointer .entry)) (now (packet .entry)) ⌝ }
+{
+    if pointer.len() < pointer_record::LENGTH {
+        return refuse(Status::NoRoom, 0);
+    }
+    let after = cursor::pointer::take(pointer_record::read(pointer), packet);
+    let status = after.status;
+    let set = after.pointer;
+    if status::number(status) != 0 {
+        return refuse(status, 0);
+    }
+    pointer_record::write(pointer, set);
+    accept()
+}
+
+// Whether the records, of so many bytes, have all of their own.
+fn are_held(pointer: usize, picture: usize) -> bool
+    ensures { λ r. ⌜ r ≡ recordsHeld pointer picture ⌝ }
+{
+    if pointer < pointer_record::LENGTH {
+        return false;
+    }
+    picture_record::LENGTH <= picture
+}
+
+// The call for starts and continuations. Answers 0, stores the data in the image with its marks, and leaves both records as the fragment
+// sets them; or answers the refusal, 10 where the pointer's record has fewer than 7 bytes or the picture's fewer than 15, and changes
+// nothing.
+#[no_mangle]
+pub extern "C" fn ashlarsilk_cursor_store(
+    pointer: &mut [u8],
+    picture: &mut [u8],
+    packet: &[u8],
+    image: &mut [u8],
+    marks: &mut [u8],
+) -> Answer
+    ensures { λ r. ⌜ afterStore r (now (pointer .exit)) (now (picture .exit)) (now (image .exit)) (now (marks .exit)) ≡ cursorStore (now (pointer .entry)) (now (picture .entry)) (now (packet .entry)) (now (image .entry)) (now (marks .entry)) ⌝ }
+{
+    if !are_held(pointer.len(), picture.len()) {
+        return refuse(Status::NoRoom, 0);
+    }
+    match cursor::store(
+        pointer_record::read(pointer),
+        picture_record::read(picture),
+        packet,
+        image,
+        marks,
+    ) {
+        StoreAnswer::Accepted(opened, moved) => {
+            pointer_record::write(pointer, moved);
+            picture_record::write(picture, opened);
+            accept()
+        }
+        StoreAnswer::Refused { status, place } => refuse(status, place),
+    }
+}
+
+// An answer to the completeness question by numbers.
+fn said(answer: CompleteAnswer) -> Yes
+    ensures { λ r. ⌜ r ≡ yesOrNo answer ⌝ }
+{
+    match answer {
+        CompleteAnswer::Yes => Yes {
+            status: 0,
+            yes: true,
+        },
+        CompleteAnswer::No => Yes {
+            status: 0,
+            yes: false,
+        },
+        CompleteAnswer::Refused { status, place } => Yes {
+            status: status::number(status),
+            yes: false,
+        },
+    }
+}
+
+// Whether the opened picture is complete: a start of it was seen, and every place is filled. Answers 0 with yes or no, or the refusal with
+// no, 10 where the picture's record has fewer than 15 bytes. Changes nothing.
+#[no_mangle]
+pub extern "C" fn ashlarsilk_cursor_complete(picture: &[u8], image: &[u8], marks: &[u8]) -> Yes
+    ensures { λ r. ⌜ r ≡ cursorComplete (now (picture .entry)) (now (image .entry)) (now (marks .entry)) ⌝ }
+{
+    if picture.len() < picture_record::LENGTH {
+        return said(CompleteAnswer::Refused {
+            status: Status::NoRoom,
+            place: 0,
+        });
+    }
+    said(cursor::complete(picture_record::read(picture), image, marks))
+}

@@ -1,0 +1,43 @@
+-- Each number is read at its place. Assumes nothing.
+use Rattle.records.specs.MessageRecord.{fieldIn}
+use borrow.Author.Needs.{needs}
+use Rattle.records.proofs.message_record.field_at.Statement.{statement}
+use Rattle.records.proofs.message_record.field_at.Tie as tie
+
+u8-at-requires : tie.Need-u8-at-requires
+u8-at-requires c κs = search needs
+
+add-u32-at : tie.Need-add-u32-at
+add-u32-at c = search needs
+
+u32-at-requires : tie.Need-u32-at-requires
+u32-at-requires c κs = search needs
+
+cast-t7 : tie.Need-cast-t7
+cast-t7 c = search needs
+
+add-u32-at-2 : tie.Need-add-u32-at-2
+add-u32-at-2 c = search needs
+
+u32-at-requires-2 : tie.Need-u32-at-requires-2
+u32-at-requires-2 c κs = search needs
+
+cast-t10 : tie.Need-cast-t10
+cast-t10 c = search needs
+
+returns : tie.Need-returns
+unfolding fieldIn
+returns c = rw (c .u32-at2 .ensures, c .before .u32-at .ensures, c .before .before .u8-at .ensures)
+
+pub field-at-spec : {M : Type 1} → statement M
+field-at-spec =
+    tie.close
+    (tie.spec
+    u8-at-requires
+    add-u32-at
+    u32-at-requires
+    cast-t7
+    add-u32-at-2
+    u32-at-requires-2
+    cast-t10
+    returns)
