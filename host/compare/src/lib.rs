@@ -1,0 +1,62 @@
+//! Compares each call of the library with the independent reference, on generated inputs.
+//!
+//! For each input the answer, the refusal's number and place, the records afterwards and every lent
+//! byte are compared, through the wrapper of `host/ashlarsilk` and through its module `sys`, which
+//! takes records of any length. The inputs come from a generator with a seed, so that a run can be
+//! repeated. [`Comparison::faults`] is empty if nothing differs, each call gave every number that
+//! paper 01 lets it give, and none gave another.
+
+#![forbid(unsafe_code)]
+
+mod cursors;
+mod layout;
+mod limits_values;
+mod making;
+mod messages;
+mod random;
+mod sessions;
+mod tally;
+
+use std::fmt;
+
+use random::Random;
+use tally::Tally;
+
+/// The seed where none is named.
+pub const SEED: u64 = 7250;
+
+/// What a run found.
+pub struct Comparison {
+    tally: Tally,
+}
+
+impl Comparison {
+    /// Compares all calls on the inputs of this seed.
+    pub fn run(seed: u64) -> Self {
+        let mut tally = Tally::default();
+        let mut random = Random::new(seed);
+        messages::run(&mut tally, &mut random);
+        sessions::run(&mut tally, &mut random);
+        limits_values::run(&mut tally, &mut random);
+        cursors::run(&mut tally, &mut random);
+        Comparison { tally }
+    }
+
+    /// The number of answers compared.
+    pub fn compared(&self) -> u64 {
+        self.tally.compared()
+    }
+
+    /// What is wrong, a text each.
+    pub fn faults(&self) -> Vec<String> {
+        self.tally.faults()
+    }
+}
+
+/// The table of answers: a line a call, a column a number; in the last column how often a record
+/// shorter than its layout was refused with 10.
+impl fmt::Display for Comparison {
+    fn fmt(&self, f: &mut fmt::Formatter<'_>) -> fmt::Result {
+        self.tally.fmt(f)
+    }
+}

@@ -1,0 +1,288 @@
+//! The sink's session: steps with events and with messages.
+
+use ashlarsilk::{sys, Event, Session, SourceId};
+use reference::session::{self, Answer, State};
+
+use crate::layout::{self, SESSION};
+use crate::messages::{any_message, right_messages};
+use crate::random::Random;
+use crate::tally::{hex, wrapped, Call, Tally};
+
+const AFTER: [u8; 2] = [0xA5, 0x5A];
+
+/// The record as a step must leave it. An accepted step writes it in its usual form. A refusal
+/// changes no byte (demand 1), but for 14 in an open session, which changes the state's name only.
+fn left_by(before: &[u8; SESSION], answer: &Answer) -> [u8; SESSION] {
+    let mut left = *before;
+    match answer.number.number() {
+        0 => left = layout::session(&answer.session),
+        14 if before[0] < 5 => left[0] = 5,
+        _ => {}
+    }
+    left
+}
+
+/// The record with bytes after it, which no call may change.
+fn lent(record: &[u8; SESSION]) -> [u8; SESSION + 2] {
+    let mut lent = [0; SESSION + 2];
+    lent[..SESSION].copy_from_slice(record);
+    lent[SESSION..].copy_from_slice(&AFTER);
+    lent
+}
+
+fn compare(
+    tally: &mut Tally,
+    call: Call,
+    before: &[u8; SESSION],
+    expected: &Answer,
+    run: impl Fn(&mut [u8]) -> sys::Step,
+    run_wrapped: impl Fn(&mut Session) -> Result<ashlarsilk::Accepted, ashlarsilk::Refused>,
+    input: impl Fn() -> String,
+) {
+    let number = expected.number.number();
+    let left = left_by(before, expected);
+    tally.count(call, number);
+    // The reference says the same of the session.
+    tally.expect(call, "session", layout::session_in(&left), expected.session, &input);
+
+    let mut record = lent(before);
+    let step = run(&mut record);
+    let check = u8::from(expected.check_pin);
+    let answer = (step.status, step.check, step.place);
+    tally.expect(call, "answer", answer, (number, check, expected.place), &input);
+    tally.expect(call, "record", record, lent(&left), &input);
+
+    let mut session = Session::from_bytes(*before);
+    let answer = run_wrapped(&mut session);
+    tally.expect(call, "wrapped answer", wrapped(&answer), (number, expected.place), &input);
+    let check_pin = answer.is_ok_and(|accepted| accepted.check_pin);
+    tally.expect(call, "wrapped check", check_pin, expected.check_pin, &input);
+    tally.expect(call, "wrapped record", *session.as_bytes(), left, &input);
+
+    let said = (session.state() as u8, session.options(), session.source_id().map(|id| id.0));
+    let after = expected.session;
+    let state = layout::session(&after)[0];
+    let expected = (state, after.options, after.id_kept.then_some(after.source_id));
+    tally.expect(call, "what the session says", said, expected, &input);
+}
+
+/// Compares a step with an event, and answers with the record afterwards.
+fn check_step(
+    tally: &mut Tally,
+    before: &[u8; SESSION],
+    event: u8,
+    source: Option<[u8; 16]>,
+    options: u8,
+) -> [u8; SESSION] {
+    let expected = session::step(layout::session_in(before), event, source, options);
+    let bytes = source.as_ref().map_or(&[][..], |source| source);
+    let id = source.map(SourceId);
+    compare(
+        tally,
+        Call::SessionStep,
+        before,
+        &expected,
+        |record| sys::session_step(record, event, bytes, options),
+        |session| session.step(Event(event), id.as_ref(), options),
+        || format!("{} with event {event}, source {source:?}, options {options}", hex(before)),
+    );
+    left_by(before, &expected)
+}
+
+/// Compares a step with a message, and answers with the record afterwards.
+fn check_message(tally: &mut Tally, before: &[u8; SESSION], bytes: &[u8]) -> [u8; SESSION] {
+    let expected = session::on_message(layout::session_in(before), bytes);
+    compare(
+        tally,
+        Call::SessionMessage,
+        before,
+        &expected,
+        |record| sys::session_message(record, bytes),
+        |session| session.message(bytes),
+        || format!("{} with {}", hex(before), hex(bytes)),
+    );
+    left_by(before, &expected)
+}
+
+pub fn run(tally: &mut Tally, random: &mut Random) {
+    fresh(tally, random);
+    every_state_and_event(tally, random);
+    every_option(tally, random);
+    walks(tally, random);
+    messages(tally, random);
+    short(tally, random);
+}
+
+fn fresh(tally: &mut Tally, random: &mut Random) {
+    let call = Call::SessionFresh;
+    let wanted = layout::session(&session::Session::fresh());
+    for _ in 0..100 {
+        let mut record = lent(&random.array());
+        let status = sys::session_fresh(&mut record);
+        tally.count(call, status.min(18));
+        tally.expect(call, "answer", status, 0, String::new);
+        tally.expect(call, "record", record, lent(&wanted), String::new);
+    }
+    tally.expect(call, "wrapped", *Session::fresh().as_bytes(), wanted, String::new);
+    for length in 0..SESSION {
+        let before = random.bytes(length);
+        let mut record = before.clone();
+        let status = sys::session_fresh(&mut record);
+        tally.count_short(call);
+        tally.expect(call, "short", status, 10, || format!("{length} bytes"));
+        tally.expect(call, "short record", &record, &before, || format!("{length} bytes"));
+    }
+}
+
+/// Every state byte with every event, without a Source ID, with the one in the record and with
+/// another, where one is kept and where not; any bytes in the rest.
+fn every_state_and_event(tally: &mut Tally, random: &mut Random) {
+    for state in 0..=255 {
+        for event in 0..=255 {
+            for kept in [0, 1, 2 + random.byte() % 254] {
+                let mut before: [u8; SESSION] = random.array();
+                before[0] = state;
+                before[2] = kept;
+                let same: [u8; 16] = before[3..].try_into().expect("16 bytes");
+                let mut other = same;
+                other[random.below(16)] ^= 1 << random.below(8);
+                for source in [None, Some(same), Some(other)] {
+                    check_step(tally, &before, event, source, random.byte());
+                }
+            }
+        }
+    }
+}
+
+/// Every option byte: brought by a Session Request, and kept when the handshake is done.
+fn every_option(tally: &mut Tally, random: &mut Random) {
+    for options in 0..=255 {
+        for state in 0..6 {
+            for event in 1..=10 {
+                let mut before: [u8; SESSION] = random.array();
+                before[0] = state;
+                before[1] = options;
+                before[2] = random.below(2) as u8;
+                check_step(tally, &before, event, None, random.byte());
+                before[1] = random.byte();
+                check_step(tally, &before, event, None, options);
+            }
+        }
+    }
+}
+
+/// Lists of events from a fresh session on, mostly ones that are expected.
+fn walks(tally: &mut Tally, random: &mut Random) {
+    for _ in 0..30_000 {
+        let mut record = layout::session(&session::Session::fresh());
+        for _ in 0..12 {
+            let expected: &[u8] = match layout::session_in(&record).state {
+                State::Waiting => &[1, 3, 4, 4],
+                State::Handshake => &[3, 7, 7],
+                State::PinWait => &[5, 8, 8, 9],
+                State::ReadyWait => &[1],
+                State::Projecting => &[2, 10],
+                State::Closed => &[1],
+            };
+            let event =
+                if random.once_in(10) { random.below(12) as u8 } else { random.pick(expected) };
+            let source = random.pick(&[None, Some([7; 16]), Some([7; 16]), Some([8; 16])]);
+            record = check_step(tally, &record, event, source, random.pick(&[0, 1, 2, 3, 255]));
+        }
+    }
+}
+
+/// Any message to a session in any state, and lists of messages.
+fn messages(tally: &mut Tally, random: &mut Random) {
+    for _ in 0..200_000 {
+        let mut before: [u8; SESSION] = random.array();
+        before[0] = random.pick(&[0, 0, 1, 2, 3, 4, 5, 6, 255]);
+        before[2] = random.pick(&[0, 0, 1, 255]);
+        let bytes = any_message(random);
+        // Often the record keeps the message's own Source ID.
+        let carried =
+            reference::message::read(&bytes).ok().and_then(|record| record.source_id(&bytes));
+        if let (Some(id), true) = (carried, random.flag()) {
+            before[3..].copy_from_slice(&id);
+        }
+        check_message(tally, &before, &bytes);
+    }
+    for bytes in right_messages(random) {
+        for state in 0..=6 {
+            for kept in 0..=1 {
+                let mut before: [u8; SESSION] = random.array();
+                (before[0], before[2]) = (state, kept);
+                check_message(tally, &before, &bytes);
+                for length in 0..bytes.len() {
+                    check_message(tally, &before, &bytes[..length]);
+                }
+            }
+        }
+    }
+    for _ in 0..5_000 {
+        let mut record = layout::session(&session::Session::fresh());
+        for _ in 0..6 {
+            record = check_message(tally, &record, &any_message(random));
+        }
+    }
+}
+
+/// Records shorter than the layout, and a source of 1 to 15 bytes: 10 before anything else, and
+/// nothing is changed. Of a longer source the first 16 bytes are taken.
+fn short(tally: &mut Tally, random: &mut Random) {
+    let message = right_messages(random).swap_remove(0);
+    for length in 0..SESSION {
+        for event in 0..12 {
+            let before = random.bytes(length);
+            let input = || format!("{length} bytes, event {event}");
+            for source in [&[][..], &[7; 16], &[7; 3]] {
+                let call = Call::SessionStep;
+                let mut record = before.clone();
+                let step = sys::session_step(&mut record, event, source, 0);
+                tally.count_short(call);
+                let answer = (step.status, step.check, step.place);
+                tally.expect(call, "short", answer, (10, 0, 0), input);
+                tally.expect(call, "short record", &record, &before, input);
+            }
+            for bytes in [&message[..], &message[..5], &[]] {
+                let call = Call::SessionMessage;
+                let mut record = before.clone();
+                let step = sys::session_message(&mut record, bytes);
+                tally.count_short(call);
+                let answer = (step.status, step.check, step.place);
+                tally.expect(call, "short", answer, (10, 0, 0), input);
+                tally.expect(call, "short record", &record, &before, input);
+            }
+        }
+    }
+    for length in 1..40 {
+        for event in 0..=255 {
+            let mut before: [u8; SESSION] = random.array();
+            before[0] = random.below(6) as u8;
+            before[2] = random.below(2) as u8;
+            let source = random.bytes(length);
+            let mut record = before;
+            let options = random.byte();
+            let step = sys::session_step(&mut record, event, &source, options);
+            let answer = (step.status, step.check, step.place);
+            let call = Call::SessionStep;
+            let input = || format!("{} with event {event}, source {source:?}", hex(&before));
+            match source.first_chunk() {
+                None => {
+                    tally.count_short(call);
+                    tally.expect(call, "short source", answer, (10, 0, 0), input);
+                    tally.expect(call, "short source: record", record, before, input);
+                }
+                Some(id) => {
+                    let session = layout::session_in(&before);
+                    let expected = session::step(session, event, Some(*id), options);
+                    let number = expected.number.number();
+                    let check = u8::from(expected.check_pin);
+                    tally.expect(call, "long source", answer, (number, check, 0), input);
+                    let left = left_by(&before, &expected);
+                    tally.expect(call, "long source: record", record, left, input);
+                }
+            }
+        }
+    }
+}

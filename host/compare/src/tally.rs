@@ -1,0 +1,286 @@
+//! What was compared: how often each call gave each number, and where the library differs from
+//! the reference.
+
+use std::fmt::{self, Debug, Write};
+
+use reference::Refused;
+
+/// The exported calls.
+#[derive(Clone, Copy, Debug, PartialEq, Eq)]
+pub enum Call {
+    MessageRead,
+    MessageWrite,
+    MessageRtspPort,
+    MessageSecurityOptions,
+    MessageSourceId,
+    SessionFresh,
+    SessionStep,
+    SessionMessage,
+    LimitsRead,
+    LimitsWrite,
+    PointerFresh,
+    PictureFresh,
+    CursorPosition,
+    CursorStore,
+    CursorComplete,
+}
+
+/// The numbers that a call can give, and the sentence of paper 01 that says so. Besides, each call
+/// refuses a record shorter than its layout with 10; that is counted by itself.
+struct Rule {
+    call: Call,
+    name: &'static str,
+    numbers: &'static [u8],
+    /// Paper 01's words.
+    paper: &'static str,
+}
+
+const RULES: [Rule; 15] = [
+    Rule {
+        call: Call::MessageRead,
+        name: "message_read",
+        numbers: &[0, 1, 2, 3, 4, 5, 6, 7, 8],
+        paper: "Order for a message: fewer than 4 bytes 1; Size below 4, 2; fewer bytes than Size \
+                1; more 2; then 3, 4; then TLVs left to right, each 5, 8 (unknown or foreign), 6, \
+                7; last 8 (missing).",
+    },
+    Rule {
+        call: Call::MessageWrite,
+        name: "message_write",
+        numbers: &[0, 10, 18],
+        paper: "Any writer: 18, then 10.",
+    },
+    Rule {
+        call: Call::MessageRtspPort,
+        name: "message_rtsp_port",
+        numbers: &[0],
+        paper: "A record gives each value as a place and a length in the lent bytes.",
+    },
+    Rule {
+        call: Call::MessageSecurityOptions,
+        name: "message_security_options",
+        numbers: &[0],
+        paper: "A record gives each value as a place and a length in the lent bytes.",
+    },
+    Rule {
+        call: Call::MessageSourceId,
+        name: "message_source_id",
+        numbers: &[0],
+        paper: "A record gives each value as a place and a length in the lent bytes.",
+    },
+    Rule {
+        call: Call::SessionFresh,
+        name: "session_fresh",
+        numbers: &[0],
+        paper: "The host keeps one session record and lends it to be changed in place.",
+    },
+    Rule {
+        call: Call::SessionStep,
+        name: "session_step",
+        numbers: &[0, 4, 14, 15],
+        paper: "Everything else is 14 and goes to Closed. A number that is no event is 4 in any \
+                state, tested first. In an open state a message carrying a different one is 15, \
+                tested before the table.",
+    },
+    Rule {
+        call: Call::SessionMessage,
+        name: "session_message",
+        numbers: &[0, 1, 2, 3, 4, 5, 6, 7, 8, 14, 15],
+        paper: "A later step goes on only when the reader accepted. (The reader's 1 to 8, then \
+                the step's 14 and 15; a command is an event, so 4 is the reader's.)",
+    },
+    Rule {
+        call: Call::LimitsRead,
+        name: "limits_read",
+        numbers: &[0, 16],
+        paper: "The whole value must match, else 16.",
+    },
+    Rule {
+        call: Call::LimitsWrite,
+        name: "limits_write",
+        numbers: &[0, 10],
+        paper: "Any writer: 18, then 10. (18 is about records of messages: any limits can be \
+                written.)",
+    },
+    Rule {
+        call: Call::PointerFresh,
+        name: "pointer_fresh",
+        numbers: &[0],
+        paper: "fresh states are associated functions",
+    },
+    Rule {
+        call: Call::PictureFresh,
+        name: "picture_fresh",
+        numbers: &[0],
+        paper: "fresh states are associated functions",
+    },
+    Rule {
+        call: Call::CursorPosition,
+        name: "cursor_position",
+        numbers: &[0, 1, 2, 3, 4, 11],
+        paper: "Order: fewer than 15 bytes 1; RTP 3; type 4; PacketMsgSize not 7 for a position, \
+                2; too few bytes 1; too many 2; a position packet that isn't newer than the last \
+                pointer sequence is 11. The call for positions is lent no picture.",
+    },
+    Rule {
+        call: Call::CursorStore,
+        name: "cursor_store",
+        numbers: &[0, 1, 2, 3, 4, 9, 10, 11, 12, 13, 17],
+        paper: "Order: 17 where a picture is lent; fewer than 15 bytes 1; RTP 3; type 4; \
+                PacketMsgSize below its header 2; too few bytes 1; too many 2; 9; 10. A fragment \
+                of the opened id: other total 12; conflict 13. A fragment of another id opens a \
+                picture if newer. Otherwise 11.",
+    },
+    Rule {
+        call: Call::CursorComplete,
+        name: "cursor_complete",
+        numbers: &[0, 17],
+        paper: "The completeness question is 17 first; with no picture open its answer is no.",
+    },
+];
+
+// The rule of a call stands at the call's number.
+const _: () = {
+    let mut number = 0;
+    while number < RULES.len() {
+        assert!(RULES[number].call as usize == number);
+        number += 1;
+    }
+};
+
+/// How many differences of each call are described in full.
+const DESCRIBED: u64 = 3;
+
+#[derive(Default)]
+pub struct Tally {
+    /// For each call, how often it gave each number.
+    counts: [[u64; 19]; RULES.len()],
+    /// For each call, how often it refused a short record with 10.
+    short: [u64; RULES.len()],
+    /// For each call, how often it differs from the reference.
+    differences: [u64; RULES.len()],
+    described: Vec<String>,
+}
+
+impl Tally {
+    /// Counts an answer.
+    pub fn count(&mut self, call: Call, number: u8) {
+        self.counts[call as usize][usize::from(number)] += 1;
+    }
+
+    /// Counts the refusal of a short record.
+    pub fn count_short(&mut self, call: Call) {
+        self.short[call as usize] += 1;
+    }
+
+    /// Notes a difference where the library's value is not the expected one.
+    #[inline]
+    pub fn expect<T: PartialEq + Debug>(
+        &mut self,
+        call: Call,
+        what: &str,
+        library: T,
+        expected: T,
+        input: impl FnOnce() -> String,
+    ) {
+        if library == expected {
+            return;
+        }
+        self.differences[call as usize] += 1;
+        if self.differences[call as usize] <= DESCRIBED {
+            let name = RULES[call as usize].name;
+            let mut text = format!("{name}, {what}: {library:?}, expected {expected:?}");
+            // A large picture is not shown byte by byte.
+            cut(&mut text, 1000);
+            let mut input = input();
+            cut(&mut input, 1000);
+            let _ = write!(text, "\n    for {input}");
+            self.described.push(text);
+        }
+    }
+
+    /// The number of answers compared.
+    pub fn compared(&self) -> u64 {
+        self.counts.iter().flatten().chain(&self.short).sum()
+    }
+
+    /// What is wrong: differences, numbers that a call can give and never gave, and numbers that
+    /// it can't give and gave.
+    pub fn faults(&self) -> Vec<String> {
+        let mut faults = self.described.clone();
+        for (rule, differences) in RULES.iter().zip(self.differences) {
+            if differences > 0 {
+                faults.push(format!("{}: {differences} differences in all", rule.name));
+            }
+        }
+        for (rule, (counts, short)) in RULES.iter().zip(self.counts.iter().zip(self.short)) {
+            let Rule { name, paper, .. } = rule;
+            for (number, &count) in (0..).zip(counts) {
+                let wrong = match (rule.numbers.contains(&number), count) {
+                    (true, 0) => "never answered",
+                    (false, 1..) => "can't answer",
+                    _ => continue,
+                };
+                faults.push(format!("{name} {wrong} with {number}; paper 01: {paper}"));
+            }
+            if short == 0 {
+                faults.push(format!("{name} was lent no short record"));
+            }
+        }
+        faults
+    }
+}
+
+fn cut(text: &mut String, length: usize) {
+    if let Some((place, _)) = text.char_indices().nth(length) {
+        text.truncate(place);
+        text.push_str("...");
+    }
+}
+
+/// The table: a line a call, a column a number that any call gives.
+impl fmt::Display for Tally {
+    fn fmt(&self, f: &mut fmt::Formatter<'_>) -> fmt::Result {
+        write!(f, "{:24}", "call")?;
+        for number in 0..19 {
+            write!(f, " {number:>7}")?;
+        }
+        writeln!(f, " {:>7}", "short")?;
+        for (rule, (counts, short)) in RULES.iter().zip(self.counts.iter().zip(self.short)) {
+            write!(f, "{:24}", rule.name)?;
+            for (number, count) in (0..).zip(counts) {
+                if *count == 0 && !rule.numbers.contains(&number) {
+                    write!(f, " {:>7}", ".")?;
+                } else {
+                    write!(f, " {count:>7}")?;
+                }
+            }
+            writeln!(f, " {short:>7}")?;
+        }
+        Ok(())
+    }
+}
+
+/// The number and the place of an answer of the reference, 0 and 0 where it accepts.
+pub fn outcome<T>(answer: &Result<T, Refused>) -> (u8, usize) {
+    match answer {
+        Ok(_) => (0, 0),
+        Err(refused) => (refused.number.number(), refused.place),
+    }
+}
+
+/// The number and the place of an answer of the wrapper.
+pub fn wrapped<T>(answer: &Result<T, ashlarsilk::Refused>) -> (u8, usize) {
+    match answer {
+        Ok(_) => (0, 0),
+        Err(refused) => (refused.refusal.number(), refused.place),
+    }
+}
+
+/// Bytes in hexadecimal.
+pub fn hex(bytes: &[u8]) -> String {
+    bytes.iter().fold(String::new(), |mut text, byte| {
+        let _ = write!(text, "{byte:02X}");
+        text
+    })
+}
