@@ -216,6 +216,33 @@ impl Message {
         Ok(Message { record })
     }
 
+    /// Reads a message, which is all of `bytes`, into this record, which a refusal leaves as it was.
+    ///
+    /// For a host that keeps one record: nothing is copied, and [`Message::read`] costs half as much
+    /// again.
+    ///
+    /// ```
+    /// use ashlarsilk::{Command, Message, Refusal};
+    ///
+    /// let mut bytes = vec![0, 33, 1, 1, 0, 0, 2, 0x41, 0, 2, 0, 2, 0x1C, 0x44, 3, 0, 16];
+    /// bytes.extend([7; 16]);
+    /// let mut message = Message::new(Command(0));
+    /// message.read_into(&bytes)?;
+    /// assert_eq!(message.command(), Command(1));
+    ///
+    /// // Another version.
+    /// bytes[2] = 2;
+    /// let refused = message.read_into(&bytes).unwrap_err();
+    /// assert_eq!(refused.refusal, Refusal::WrongHeader);
+    /// assert_eq!(message.command(), Command(1));
+    /// # Ok::<(), ashlarsilk::Refused>(())
+    /// ```
+    #[inline]
+    pub fn read_into(&mut self, bytes: &[u8]) -> Result<(), Refused> {
+        let answer = sys::message_read(bytes, &mut self.record);
+        Refused::check(answer.status, answer.place)
+    }
+
     /// Writes the message to `out`, its values taken from `bytes`, and answers the number of bytes
     /// written. Refusals: 18, then 10; they change no byte of `out`. No byte after the message is
     /// changed.

@@ -145,7 +145,7 @@ pub fn storing() {
     for size in FRAGMENTS {
         stored(LARGEST_PICTURE, size);
     }
-    for total in PICTURES {
+    for total in PICTURES.into_iter().filter(|total| *total < LARGEST_PICTURE) {
         stored(total, USUAL);
     }
 }

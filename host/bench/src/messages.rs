@@ -2,7 +2,7 @@
 
 use std::hint::black_box;
 
-use ashlarsilk::{Limits, Message, Session};
+use ashlarsilk::{Command, Limits, Message, Session};
 use reference::{limits, message, session};
 
 use crate::table::row;
@@ -36,19 +36,36 @@ const SIZES: [usize; 6] = [64, 256, 1024, 4096, 16_384, 65_535];
 /// Reading and writing messages.
 pub fn messages() {
     let ready = source_ready();
-    read("read a Source Ready", &ready);
-    read("read a Session Request", &built(4, &[(0, &[0x41; 40]), (3, &[7; 16]), (5, &[3])]));
-    read("read a PIN Response", &built(6, &[(3, &[7; 16]), (6, &[9; 32]), (7, &[0])]));
+    read("read a Source Ready, a new record", &ready);
+    read_into("read a Source Ready", &ready);
+    read_into("read a Session Request", &built(4, &[(0, &[0x41; 40]), (3, &[7; 16]), (5, &[3])]));
+    read_into("read a PIN Response", &built(6, &[(3, &[7; 16]), (6, &[9; 32]), (7, &[0])]));
     for size in SIZES {
-        read("read a Security Handshake", &handshake(size));
+        read_into("read a Security Handshake", &handshake(size));
     }
     let mut damaged = ready.clone();
     damaged[9] = 1;
-    read("refuse a Source Ready", &damaged);
+    read_into("refuse a Source Ready", &damaged);
     write("write a Source Ready", &ready);
     for size in SIZES {
         write("write a Security Handshake", &handshake(size));
     }
+}
+
+/// Into a record that the host keeps.
+fn read_into(work: &str, bytes: &[u8]) {
+    let mut message = Message::new(Command(0));
+    row(
+        work,
+        bytes.len(),
+        &mut || {
+            let _ = black_box(message.read_into(black_box(bytes)));
+            black_box(&message);
+        },
+        &mut || {
+            black_box(&message::read(black_box(bytes)));
+        },
+    );
 }
 
 fn read(work: &str, bytes: &[u8]) {
