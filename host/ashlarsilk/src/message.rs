@@ -218,8 +218,8 @@ impl Message {
 
     /// Reads a message, which is all of `bytes`, into this record, which a refusal leaves as it was.
     ///
-    /// For a host that keeps one record: nothing is copied, and [`Message::read`] costs half as much
-    /// again.
+    /// For a host that keeps one record: nothing is copied, where [`Message::read`] copies the record
+    /// once.
     ///
     /// ```
     /// use ashlarsilk::{Command, Message, Refusal};

@@ -23,7 +23,7 @@ unfolding bytesLeft
 returns c =
     let w = c .before .before .before in
     let i = w .before .before in
-    rw (c .answered .ensures, w .write .ensures) (simp (eq-eqb _ _ (sym (i .before .number .ensures) ∙ i .if1 .taken)))
+    rw (c .answered .ensures, w .write .ensures) (simp (eq-eqb _ 0 (sym (i .before .number .ensures) ∙ i .if1 .taken)))
 
 number-of-requires : tie.Need-number-of-requires
 number-of-requires c κs = search needs
