@@ -1,5 +1,6 @@
 pub mod Layout
 pub mod LimitsRecord
+pub mod Little
 pub mod MessageRecord
 pub mod PictureRecord
 pub mod PointerRecord

@@ -1,5 +1,7 @@
+pub mod Examples
 pub mod Layout
 pub mod LimitsRecord
+pub mod Little
 pub mod MessageRecord
 pub mod PictureRecord
 pub mod PointerRecord

@@ -3,7 +3,6 @@ use Prim.Native.Nat.{ℕ, _+_, _^_, _≤_, _<_}
 use mathlib.Core.Path.{_≡_}
 use mathlib.Core.List.{List, _++_}
 use lib.ListN.{length}
-use Rattle.wire.specs.Number.{number, bytes}
 use Rattle.message.specs.declared.record.Field.{Field}
 use Rattle.message.specs.declared.record.Message.{Message}
 use Rattle.message.specs.declared.reader.Answer.the-variants as answer
@@ -11,6 +10,7 @@ use Rattle.message.specs.Record.{fieldOf}
 use Rattle.message.specs.Reading.{readMessage}
 use Rattle.message.specs.Theorems.{Bytes}
 use Rattle.records.specs.Layout.{flag, isSet, laid}
+use Rattle.records.specs.Little.{number, bytes}
 
 -- a field: whether it is there, the place and the length of its value, both modulo 2^32
 unfoldable pub fieldBytes : Field → List ℕ

@@ -4,10 +4,10 @@ use mathlib.Core.Path.{_≡_}
 use mathlib.Core.Bool.{Bool}
 use mathlib.Core.List.{List, _++_}
 use lib.ListN.{length}
-use Rattle.wire.specs.Number.{number, bytes}
 use Rattle.packet.specs.declared.start.Start.{Start}
 use Rattle.cursor.specs.declared.picture.Picture.{Picture}
 use Rattle.records.specs.Layout.{flag, isSet, laid}
+use Rattle.records.specs.Little.{number, bytes}
 
 -- the last six bytes: whether a start was seen, and its own fields
 unfoldable pub startBytes : Bool → Start → List ℕ

@@ -4,10 +4,10 @@ use mathlib.Core.Path.{_≡_}
 use mathlib.Core.List.{List, _++_}
 use lib.ListN.{length}
 use lib.Signed.{mag}
-use Rattle.wire.specs.Number.{number, bytes}
 use Rattle.wire.specs.Signed.{signed, unsigned}
 use Rattle.cursor.specs.declared.pointer.Pointer.{Pointer}
 use Rattle.records.specs.Layout.{flag, isSet, laid}
+use Rattle.records.specs.Little.{number, bytes}
 
 -- its bytes
 unfoldable pub pointerBytes : Pointer → List ℕ

@@ -3,12 +3,12 @@ use Prim.Native.Nat.{ℕ, _≤_, _<_}
 use mathlib.Core.Path.{_≡_}
 use mathlib.Core.List.{List, [], _∷_, _++_}
 use lib.ListN.{length, getD, drop, replicate}
-use Rattle.wire.specs.Number.{number, bytes}
 use Rattle.scan.specs.Bytes.{copied}
 use Rattle.session.specs.declared.record.State.{State}
 use Rattle.session.specs.declared.record.State.the-variants as state
 use Rattle.session.specs.declared.record.Session.{Session}
 use Rattle.records.specs.Layout.{flag, isSet, laid}
+use Rattle.records.specs.Little.{number, bytes}
 
 -- the numbers of the states, from 0 on; any greater number is Closed
 unfoldable pub stateOf : ℕ → State

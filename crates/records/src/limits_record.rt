@@ -9,13 +9,13 @@
 ghost use mathlib.Core.Path.{_≡_};
 ghost use Rattle.records.specs.Layout.{laid};
 ghost use Rattle.records.specs.LimitsRecord.{xorByte, xorOf, numberBytes, limitsBytes, limitsIn};
+use crate::little::put_u8;
+use crate::little::put_u16;
+use crate::little::u8_at;
+use crate::little::u16_at;
 use limits::value::Limits;
 use limits::value::Value;
 use limits::value::Xor;
-use wire::number::put_u8;
-use wire::number::put_u16;
-use wire::number::u8_at;
-use wire::number::u16_at;
 
 pub const LENGTH: usize = 8;
 

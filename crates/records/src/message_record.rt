@@ -15,12 +15,12 @@ ghost use lib.ListN.{length};
 ghost use Rattle.wire.specs.Splice.{splice};
 ghost use Rattle.records.specs.Layout.{laid};
 ghost use Rattle.records.specs.MessageRecord.{fieldBytes, fieldIn, messageBytes, messageIn};
+use crate::little::put_u8;
+use crate::little::put_u32;
+use crate::little::u8_at;
+use crate::little::u32_at;
 use message::record::Field;
 use message::record::Message;
-use wire::number::put_u8;
-use wire::number::put_u32;
-use wire::number::u8_at;
-use wire::number::u32_at;
 
 pub const LENGTH: usize = 64;
 

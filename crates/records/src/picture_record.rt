@@ -15,14 +15,14 @@ ghost use lib.ListN.{length};
 ghost use Rattle.wire.specs.Splice.{splice};
 ghost use Rattle.records.specs.Layout.{laid};
 ghost use Rattle.records.specs.PictureRecord.{startBytes, pictureBytes, pictureOf};
+use crate::little::put_u8;
+use crate::little::put_u16;
+use crate::little::put_u32;
+use crate::little::u8_at;
+use crate::little::u16_at;
+use crate::little::u32_at;
 use cursor::picture::Picture;
 use packet::start::Start;
-use wire::number::put_u8;
-use wire::number::put_u16;
-use wire::number::put_u32;
-use wire::number::u8_at;
-use wire::number::u16_at;
-use wire::number::u32_at;
 
 pub const LENGTH: usize = 15;
 

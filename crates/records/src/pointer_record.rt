@@ -8,11 +8,11 @@
 ghost use mathlib.Core.Path.{_≡_};
 ghost use Rattle.records.specs.Layout.{laid};
 ghost use Rattle.records.specs.PointerRecord.{pointerBytes, pointerOf};
+use crate::little::put_u8;
+use crate::little::put_u16;
+use crate::little::u8_at;
+use crate::little::u16_at;
 use cursor::pointer::Pointer;
-use wire::number::put_u8;
-use wire::number::put_u16;
-use wire::number::u8_at;
-use wire::number::u16_at;
 use wire::signed::signed16;
 use wire::signed::unsigned16;
 

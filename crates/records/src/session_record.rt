@@ -11,12 +11,12 @@ ghost use lib.ListN.{length};
 ghost use Rattle.wire.specs.Splice.{splice};
 ghost use Rattle.records.specs.Layout.{laid};
 ghost use Rattle.records.specs.SessionRecord.{stateOf, stateNumber, idAt, sessionBytes, sessionOf};
+use crate::little::put_u8;
+use crate::little::u8_at;
 use message::accessors::SourceId;
 use scan::bytes;
 use session::record::Session;
 use session::record::State;
-use wire::number::put_u8;
-use wire::number::u8_at;
 
 pub const LENGTH: usize = 19;
 

@@ -1,9 +1,8 @@
 -- A shorter slice is left alone; else each number stands after the one before, and the Source ID after them. Assumes nothing.
-use mathlib.Core.Path.{_≡_, refl, sym, ap, _∙_}
+use mathlib.Core.Path.{_≡_, sym}
 use native.Mathlib.Omega.{arith}
 use lib.ListN.{length}
 use denote.Ref.{now}
-use Rattle.wire.specs.Number.{bytes}
 use Rattle.records.specs.SessionRecord.{sessionBytes}
 use Rattle.records.proofs.Laws.Layout.{nothing, next, next-as, next-part, whole, laid-short, flag-byte}
 use Rattle.records.proofs.Laws.SessionRecord.{session-length}
