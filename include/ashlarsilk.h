@@ -15,9 +15,10 @@
  * - During a call nobody else writes the lent bytes, or reads those that the call may write.
  * - The calls keep no state, and no pointer after they return. So any thread may call at any time, with its own buffers.
  *
- * A record is a buffer of bytes that the host keeps and lends; its layout is given below. Numbers in it are big-endian. A flag is one byte, 0
- * for no and any other for yes, written as 1. A record lent with fewer bytes than its layout has is refused with ASHLARSILK_NO_ROOM, before
- * anything else is looked at; the bytes after the layout are left alone. Any bytes may stand in a record.
+ * A record is a buffer of bytes that the host keeps and lends; its layout is given below. Numbers in it are little-endian:
+ * the least significant byte first. A flag is one byte, 0 for no and any other for yes, written as 1. A record lent with fewer bytes than its
+ * layout has is refused with ASHLARSILK_NO_ROOM, before anything else is looked at; the bytes after the layout are left alone. Any bytes may
+ * stand in a record.
  */
 #ifndef ASHLARSILK_H
 #define ASHLARSILK_H
@@ -107,16 +108,17 @@ typedef struct ashlarsilk_yes {
     bool yes;
 } ashlarsilk_yes;
 
-/* Numbers in a record, and in a packet or message. The bytes from the place on must be there. */
+/* Numbers in a record, the least significant byte first; those of messages and packets are big-endian, and not for these functions. The bytes
+   from the place on must be there. */
 
 static inline uint16_t ashlarsilk_u16_at(const uint8_t *bytes, size_t place)
 {
-    return (uint16_t)((unsigned)bytes[place] << 8 | bytes[place + 1]);
+    return (uint16_t)(bytes[place] | (unsigned)bytes[place + 1] << 8);
 }
 
 static inline uint32_t ashlarsilk_u32_at(const uint8_t *bytes, size_t place)
 {
-    return (uint32_t)ashlarsilk_u16_at(bytes, place) << 16 | ashlarsilk_u16_at(bytes, place + 2);
+    return ashlarsilk_u16_at(bytes, place) | (uint32_t)ashlarsilk_u16_at(bytes, place + 2) << 16;
 }
 
 /* Two's complement. */
@@ -128,14 +130,14 @@ static inline int16_t ashlarsilk_i16_at(const uint8_t *bytes, size_t place)
 
 static inline void ashlarsilk_put_u16(uint8_t *bytes, size_t place, uint16_t number)
 {
-    bytes[place] = (uint8_t)(number >> 8);
-    bytes[place + 1] = (uint8_t)(number & 255);
+    bytes[place] = (uint8_t)(number & 255);
+    bytes[place + 1] = (uint8_t)(number >> 8);
 }
 
 static inline void ashlarsilk_put_u32(uint8_t *bytes, size_t place, uint32_t number)
 {
-    ashlarsilk_put_u16(bytes, place, (uint16_t)(number >> 16));
-    ashlarsilk_put_u16(bytes, place + 2, (uint16_t)(number & 65535));
+    ashlarsilk_put_u16(bytes, place, (uint16_t)(number & 65535));
+    ashlarsilk_put_u16(bytes, place + 2, (uint16_t)(number >> 16));
 }
 
 /*

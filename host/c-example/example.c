@@ -72,7 +72,7 @@ static void refuse_message(void)
 
     memcpy(without_port, source_ready, 9);
     memcpy(without_port + 9, source_ready + 14, 19);
-    ashlarsilk_put_u16(without_port, 0, 0x001C);
+    without_port[1] = 0x1C;
     answer = ashlarsilk_message_read(without_port, sizeof without_port, record, sizeof record);
     show_refusal("message without port", answer.status, answer.place);
 }

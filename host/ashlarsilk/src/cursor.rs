@@ -11,7 +11,8 @@ pub const LARGEST_PICTURE: usize = 262_144;
 
 /// The record of the pointer's position.
 ///
-/// It is kept in the layout that the library reads and writes, [`Pointer::LENGTH`] bytes:
+/// It is kept in the layout that the library reads and writes, [`Pointer::LENGTH`] bytes; numbers
+/// are little-endian:
 ///
 /// | Place | Bytes | |
 /// |---|---|---|
@@ -55,14 +56,14 @@ impl Pointer {
 
     /// The position, x then y, if it is known.
     pub fn position(&self) -> Option<(i16, i16)> {
-        let [known, _, _, x1, x0, y1, y0] = self.record;
-        (known != 0).then_some((i16::from_be_bytes([x1, x0]), i16::from_be_bytes([y1, y0])))
+        let [known, _, _, x0, x1, y0, y1] = self.record;
+        (known != 0).then_some((i16::from_le_bytes([x0, x1]), i16::from_le_bytes([y0, y1])))
     }
 
     /// The sequence number of the packet that set the position, if it is known.
     pub fn sequence(&self) -> Option<u16> {
-        let [known, s1, s0, ..] = self.record;
-        (known != 0).then_some(u16::from_be_bytes([s1, s0]))
+        let [known, s0, s1, ..] = self.record;
+        (known != 0).then_some(u16::from_le_bytes([s0, s1]))
     }
 }
 
@@ -116,7 +117,8 @@ pub struct Start {
 /// The record of the opened picture. Beside it the host lends the picture's bytes, and marks, one
 /// byte a place: zero means empty, else filled.
 ///
-/// It is kept in the layout that the library reads and writes, [`Picture::LENGTH`] bytes:
+/// It is kept in the layout that the library reads and writes, [`Picture::LENGTH`] bytes; numbers
+/// are little-endian:
 ///
 /// | Place | Bytes | |
 /// |---|---|---|
@@ -164,17 +166,17 @@ impl Picture {
 
     /// What is known of the opened picture, if one is opened.
     pub fn opened(&self) -> Option<Opened> {
-        let [opened, i1, i0, t3, t2, t1, t0, s1, s0, seen, image_type, x1, x0, y1, y0] =
+        let [opened, i0, i1, t0, t1, t2, t3, s0, s1, seen, image_type, x0, x1, y0, y1] =
             self.record;
         let start = Start {
             image_type,
-            hot_x: u16::from_be_bytes([x1, x0]),
-            hot_y: u16::from_be_bytes([y1, y0]),
+            hot_x: u16::from_le_bytes([x0, x1]),
+            hot_y: u16::from_le_bytes([y0, y1]),
         };
         (opened != 0).then_some(Opened {
-            id: u16::from_be_bytes([i1, i0]),
-            total: u32::from_be_bytes([t3, t2, t1, t0]),
-            sequence: u16::from_be_bytes([s1, s0]),
+            id: u16::from_le_bytes([i0, i1]),
+            total: u32::from_le_bytes([t0, t1, t2, t3]),
+            sequence: u16::from_le_bytes([s0, s1]),
             start: (seen != 0).then_some(start),
         })
     }

@@ -5,7 +5,7 @@ use crate::sys;
 
 /// What a cursor limits value says.
 ///
-/// The library's record of it has [`Limits::LENGTH`] bytes:
+/// The library's record of it has [`Limits::LENGTH`] bytes; numbers are little-endian:
 ///
 /// | Place | Bytes | |
 /// |---|---|---|
@@ -40,15 +40,15 @@ impl Limits {
 
     /// What the record in these bytes says, whatever they are.
     pub const fn from_bytes(record: [u8; Self::LENGTH]) -> Self {
-        let [supported, xor, w1, w0, h1, h0, p1, p0] = record;
+        let [supported, xor, w0, w1, h0, h1, p0, p1] = record;
         if supported == 0 {
             return Limits::NotSupported;
         }
         Limits::Supported {
             xor: xor != 0,
-            width: u16::from_be_bytes([w1, w0]),
-            height: u16::from_be_bytes([h1, h0]),
-            port: u16::from_be_bytes([p1, p0]),
+            width: u16::from_le_bytes([w0, w1]),
+            height: u16::from_le_bytes([h0, h1]),
+            port: u16::from_le_bytes([p0, p1]),
         }
     }
 
@@ -57,9 +57,9 @@ impl Limits {
         let Limits::Supported { xor, width, height, port } = self else {
             return [0; Self::LENGTH];
         };
-        let ([w1, w0], [h1, h0]) = (width.to_be_bytes(), height.to_be_bytes());
-        let [p1, p0] = port.to_be_bytes();
-        [1, xor as u8, w1, w0, h1, h0, p1, p0]
+        let ([w0, w1], [h0, h1]) = (width.to_le_bytes(), height.to_le_bytes());
+        let [p0, p1] = port.to_le_bytes();
+        [1, xor as u8, w0, w1, h0, h1, p0, p1]
     }
 
     /// Reads a value, which is all of `text`. Refusal: 16.

@@ -118,7 +118,8 @@ impl fmt::Display for SourceId {
 
 /// The record of a message: its command, and where each of its values stands in the lent bytes.
 ///
-/// It is kept in the layout that the library reads and writes, [`Message::LENGTH`] bytes:
+/// It is kept in the layout that the library reads and writes, [`Message::LENGTH`] bytes; numbers
+/// are little-endian:
 ///
 /// | Place | Bytes | |
 /// |---|---|---|
@@ -166,11 +167,11 @@ impl Message {
 
     /// Where the value of this type stands, if it is there.
     pub fn field(&self, tlv: Tlv) -> Option<Field> {
-        let &[present, p3, p2, p1, p0, l3, l2, l1, l0] =
+        let &[present, p0, p1, p2, p3, l0, l1, l2, l3] =
             self.record[tlv.at()..].first_chunk().expect("within the layout");
         (present != 0).then_some(Field {
-            place: u32::from_be_bytes([p3, p2, p1, p0]),
-            length: u32::from_be_bytes([l3, l2, l1, l0]),
+            place: u32::from_le_bytes([p0, p1, p2, p3]),
+            length: u32::from_le_bytes([l0, l1, l2, l3]),
         })
     }
 
@@ -180,8 +181,8 @@ impl Message {
         part.fill(0);
         if let Some(Field { place, length }) = field {
             part[0] = 1;
-            part[1..5].copy_from_slice(&place.to_be_bytes());
-            part[5..].copy_from_slice(&length.to_be_bytes());
+            part[1..5].copy_from_slice(&place.to_le_bytes());
+            part[5..].copy_from_slice(&length.to_le_bytes());
         }
     }
 

@@ -81,8 +81,29 @@ impl Refusal {
     /// assert_eq!(Refusal::from_number(0), None);
     /// assert_eq!(Refusal::from_number(19), None);
     /// ```
-    pub fn from_number(number: u8) -> Option<Refusal> {
-        Self::ALL.get(usize::from(number).checked_sub(1)?).copied()
+    #[inline]
+    pub const fn from_number(number: u8) -> Option<Refusal> {
+        Some(match number {
+            1 => Refusal::Truncated,
+            2 => Refusal::WrongSize,
+            3 => Refusal::WrongHeader,
+            4 => Refusal::UnknownKind,
+            5 => Refusal::TlvTruncated,
+            6 => Refusal::TlvLength,
+            7 => Refusal::TlvRepeated,
+            8 => Refusal::TlvUnexpected,
+            9 => Refusal::OutsideImage,
+            10 => Refusal::NoRoom,
+            11 => Refusal::NotNewer,
+            12 => Refusal::TotalDiffers,
+            13 => Refusal::Conflict,
+            14 => Refusal::UnexpectedEvent,
+            15 => Refusal::OtherSource,
+            16 => Refusal::NotGrammar,
+            17 => Refusal::ImageNotHeld,
+            18 => Refusal::NotWritable,
+            _ => return None,
+        })
     }
 
     /// What happened, in words.

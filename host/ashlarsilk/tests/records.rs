@@ -16,8 +16,8 @@ fn a_message_record_holds_each_field_at_its_place() {
         assert_eq!(message.field(tlv), Some(field));
     }
     let bytes = message.as_bytes();
-    assert_eq!(bytes[..10], [5, 1, 1, 2, 3, 4, 5, 6, 7, 8]);
-    assert_eq!(bytes[55..], [1, 1, 2, 3, 10, 5, 6, 7, 14]);
+    assert_eq!(bytes[..10], [5, 1, 4, 3, 2, 1, 8, 7, 6, 5]);
+    assert_eq!(bytes[55..], [1, 10, 3, 2, 1, 14, 7, 6, 5]);
     assert_eq!(Message::from_bytes(*bytes), message);
 
     message.set(Tlv::RtspPort, None);
@@ -60,8 +60,10 @@ fn records_that_say_the_same_are_equal() {
         Pointer::from_bytes([2, 1, 2, 3, 4, 5, 6])
     );
     assert_ne!(Pointer::from_bytes([1, 1, 2, 3, 4, 5, 6]), Pointer::fresh());
+    let pointer = Pointer::from_bytes([1, 2, 1, 4, 3, 0xFE, 0xFF]);
+    assert_eq!((pointer.sequence(), pointer.position()), (Some(0x0102), Some((0x0304, -2))));
 
-    let mut bytes = [1, 0, 9, 0, 0, 1, 0, 0, 5, 0, 1, 2, 3, 4, 5];
+    let mut bytes = [1, 9, 0, 0, 1, 0, 0, 5, 0, 0, 1, 3, 2, 5, 4];
     let picture = Picture::from_bytes(bytes);
     bytes[10] = 77;
     assert_eq!(Picture::from_bytes(bytes), picture);
@@ -77,8 +79,8 @@ fn records_that_say_the_same_are_equal() {
 #[test]
 fn limits_go_to_their_bytes_and_back() {
     let limits = Limits::Supported { xor: true, width: 0x0102, height: 0x0304, port: 0x0506 };
-    assert_eq!(limits.to_bytes(), [1, 1, 1, 2, 3, 4, 5, 6]);
-    assert_eq!(Limits::from_bytes([9, 7, 1, 2, 3, 4, 5, 6]), limits);
+    assert_eq!(limits.to_bytes(), [1, 1, 2, 1, 4, 3, 6, 5]);
+    assert_eq!(Limits::from_bytes([9, 7, 2, 1, 4, 3, 6, 5]), limits);
     assert_eq!(Limits::from_bytes([0, 7, 1, 2, 3, 4, 5, 6]), Limits::NotSupported);
     assert_eq!(Limits::NotSupported.to_bytes(), [0; 8]);
 }

@@ -248,7 +248,7 @@ fn distances_of_positions(tally: &mut Tally, random: &mut Random) {
             let bytes = position(sequence, random.number() as i16, random.number() as i16);
             let mut pointer: [u8; POINTER] = random.array();
             pointer[0] = random.pick(&[0, 1, 1, 1, 2, 255]);
-            pointer[1..3].copy_from_slice(&last.to_be_bytes());
+            pointer[1..3].copy_from_slice(&last.to_le_bytes());
             check_position(tally, &mut pointer, &bytes);
         }
     }
@@ -425,7 +425,7 @@ fn totals_and_offsets(tally: &mut Tally, random: &mut Random) {
                 let kind = Kind::Continuation { offset };
                 let bytes = fragment(Fragment { sequence: 1, id: 7, total, kind }, &[1, 2, 3]);
                 check_store(tally, &mut kept, &bytes);
-                kept.picture[3..7].copy_from_slice(&total.to_be_bytes());
+                kept.picture[3..7].copy_from_slice(&total.to_le_bytes());
                 kept.picture[0] = 1;
                 check_complete(tally, &kept);
                 check_store(tally, &mut kept, &bytes);
@@ -558,7 +558,7 @@ fn any_calls(tally: &mut Tally, random: &mut Random) {
     for _ in 0..400_000 {
         let mut pointer: [u8; POINTER] = random.array();
         pointer[0] = random.pick(&[0, 1, 1, 2]);
-        pointer[1..3].copy_from_slice(&random.pick(&TURNS).to_be_bytes());
+        pointer[1..3].copy_from_slice(&random.pick(&TURNS).to_le_bytes());
         let mut picture = layout::picture(&Picture {
             open: true,
             id: 6 + random.below(3) as u16,

@@ -13,11 +13,11 @@ pub const POINTER: usize = 7;
 pub const PICTURE: usize = 15;
 
 fn u16_at(bytes: &[u8], place: usize) -> u16 {
-    u16::from_be_bytes([bytes[place], bytes[place + 1]])
+    u16::from_le_bytes([bytes[place], bytes[place + 1]])
 }
 
 fn u32_at(bytes: &[u8], place: usize) -> u32 {
-    u32::from(u16_at(bytes, place)) << 16 | u32::from(u16_at(bytes, place + 2))
+    u32::from(u16_at(bytes, place)) | u32::from(u16_at(bytes, place + 2)) << 16
 }
 
 /// The bytes one after the other.
@@ -31,8 +31,8 @@ pub fn message(record: &Record) -> [u8; MESSAGE] {
     for (field, value) in bytes[1..].chunks_exact_mut(9).zip(record.values) {
         if let Some(Span { place, length }) = value {
             field[0] = 1;
-            field[1..5].copy_from_slice(&(place as u32).to_be_bytes());
-            field[5..].copy_from_slice(&(length as u32).to_be_bytes());
+            field[1..5].copy_from_slice(&(place as u32).to_le_bytes());
+            field[5..].copy_from_slice(&(length as u32).to_le_bytes());
         }
     }
     bytes
@@ -60,7 +60,7 @@ pub fn session_in(bytes: &[u8; SESSION]) -> Session {
 
 pub fn limits(limits: &Limits) -> [u8; LIMITS] {
     let Limits::Supported { xor, width, height, port } = *limits else { return [0; LIMITS] };
-    let numbers = [width, height, port].map(u16::to_be_bytes).concat();
+    let numbers = [width, height, port].map(u16::to_le_bytes).concat();
     laid(&[&[1, u8::from(xor)], &numbers])
 }
 
@@ -77,8 +77,8 @@ pub fn limits_in(bytes: &[u8; LIMITS]) -> Limits {
 }
 
 pub fn pointer(pointer: &Pointer) -> [u8; POINTER] {
-    let sequence = pointer.last.to_be_bytes();
-    let place = [pointer.x, pointer.y].map(i16::to_be_bytes).concat();
+    let sequence = pointer.last.to_le_bytes();
+    let place = [pointer.x, pointer.y].map(i16::to_le_bytes).concat();
     laid(&[&[u8::from(pointer.known)], &sequence, &place])
 }
 
@@ -92,12 +92,12 @@ pub fn pointer_in(bytes: &[u8; POINTER]) -> Pointer {
 }
 
 pub fn picture(picture: &Picture) -> [u8; PICTURE] {
-    let hot_spot = [picture.hot_x, picture.hot_y].map(u16::to_be_bytes).concat();
+    let hot_spot = [picture.hot_x, picture.hot_y].map(u16::to_le_bytes).concat();
     laid(&[
         &[u8::from(picture.open)],
-        &picture.id.to_be_bytes(),
-        &picture.total.to_be_bytes(),
-        &picture.opening_sequence.to_be_bytes(),
+        &picture.id.to_le_bytes(),
+        &picture.total.to_le_bytes(),
+        &picture.opening_sequence.to_le_bytes(),
         &[u8::from(picture.start_seen), picture.image_type],
         &hot_spot,
     ])

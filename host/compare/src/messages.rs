@@ -325,8 +325,8 @@ fn any_field(random: &mut Random, kind: u8, lent: usize) -> [u8; 9] {
     };
     let mut field = [0; 9];
     field[0] = random.pick(&[1, 1, 1, 2, 255]);
-    field[1..5].copy_from_slice(&place.to_be_bytes());
-    field[5..].copy_from_slice(&length.to_be_bytes());
+    field[1..5].copy_from_slice(&place.to_le_bytes());
+    field[5..].copy_from_slice(&length.to_le_bytes());
     field
 }
 
@@ -381,7 +381,7 @@ fn written(tally: &mut Tally, random: &mut Random) {
 fn largest_written(tally: &mut Tally, random: &mut Random) {
     let bytes = random.bytes(70_000);
     let field =
-        |place: u32, length: u32| [&[1][..], &place.to_be_bytes(), &length.to_be_bytes()].concat();
+        |place: u32, length: u32| [&[1][..], &place.to_le_bytes(), &length.to_le_bytes()].concat();
     for length in 65_500..65_540 {
         for with_id in [false, true] {
             let mut record = [0; MESSAGE];
