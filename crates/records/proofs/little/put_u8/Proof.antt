@@ -1,0 +1,16 @@
+-- The shared writing with one byte. Assumes nothing.
+use borrow.Author.Needs.{needs}
+use Rattle.records.proofs.little.put_u8.Statement.{statement}
+use Rattle.records.proofs.little.put_u8.Tie as tie
+
+write-requires : tie.Need-write-requires
+write-requires c κs = search needs
+
+same-length : tie.Need-same-length
+same-length c = search needs
+
+returns : tie.Need-returns
+returns c = c .before .before .write .ensures
+
+pub put-u8-spec : {M : Type 1} → statement M
+put-u8-spec = tie.close (tie.spec write-requires same-length returns)
