@@ -1,22 +1,32 @@
 -- Laws of `copied`: a step of the loop, its end, and bytes of equal number. Assumes nothing.
-use Prim.Native.Nat.{ℕ, suc, _+_, _<_}
-use mathlib.Core.Path.{_≡_, sym, _∙_}
-use mathlib.Core.List.{List, [], _∷_, _++_, append-assoc, append-nil}
+use Prim.Native.Nat.{ℕ, _+_, _-_, _≤_}
+use mathlib.Core.Path.{_≡_, sym, ap, _∙_}
+use mathlib.Core.List.{List, _++_, append-assoc, append-nil}
 use native.Mathlib.Omega.{arith}
 use native.Mathlib.Decide.{decLt}
-use native.Mathlib.Numerals.{add-one}
-use lib.ListN.{length, getD, take, drop, set, drop-of-length-le}
-use lib.Seq.{take-suc, drop-cons, set-at, take-all, drop-length, length-take-le}
+use lib.ListN.{length, take, drop, length-drop, drop-of-length-le}
+use lib.Seq.{take-all, take-add, take-at, drop-at, drop-drop, drop-length, length-take-le}
+use borrow.Rule.Slice.PartMut.{putMid}
 use Rattle.scan.specs.Bytes.{copied}
 use Rattle.scan.specs.Order.{lesser}
 use Rattle.scan.proofs.Laws.Order.{lesser-first, lesser-second}
 
-pub copy-more
-    : (k : ℕ) (from to : List ℕ) → k < length from → k < length to
-    → set (take k from ++ drop k to) k (getD from k 0) ≡ take (k + 1) from ++ drop (k + 1) to
-copy-more k from to f t =
-    rw (add-one, drop-cons to k 0 t, take-suc from k 0 f, set-at (take k from) (getD to k 0) (drop (suc k) to) (getD from k 0) k (length-take-le k from (omega arith)))
-    (sym (append-assoc (take k from) (getD from k 0 ∷ []) (drop (suc k) to)))
+-- how long a part is
+pub part-length : (k n : ℕ) (xs : List ℕ) → k + n ≤ length xs → length (take (k + n - k) (drop k xs)) ≡ n
+part-length k n xs h =
+    let e : k + n - k ≡ n = omega arith in
+    rw e (length-take-le n (drop k xs) (rw (length-drop k xs) (omega arith)))
+
+-- a part of the bytes after the first k
+pub copy-part
+    : (k e : ℕ) (from to : List ℕ) → k ≤ e → e ≤ length from → k ≤ length to
+    → putMid k (e - k) (take k from ++ drop k to) (take (e - k) (drop k from)) ≡ take e from ++ drop e to
+copy-part k e from to l f t =
+    let n : length (take k from) ≡ k = length-take-le k from (omega arith) in
+    let s : k + (e - k) ≡ e = omega arith in
+    rw (take-at (take k from) (drop k to) k n, drop-at (take k from) (drop k to) k n, drop-drop (e - k) k to, s)
+    (sym (append-assoc (take k from) (take (e - k) (drop k from)) (drop e to))
+    ∙ ap (λ (z : List ℕ). z ++ drop e to) (sym (take-add k (e - k) from) ∙ ap (λ (m : ℕ). take m from) s))
 
 pub copy-end : (from to : List ℕ) → (k : ℕ) → k ≡ lesser (length to) (length from) → take k from ++ drop k to ≡ copied from to
 unfolding copied

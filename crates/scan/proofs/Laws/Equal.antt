@@ -1,11 +1,11 @@
--- Laws of bytes that differ: as the loops compare them, and lists that begin with the same bytes. Assumes nothing.
-use Prim.Native.Nat.{ℕ, zero, suc, _+_, _≤_, _<_}
+-- Laws of bytes that differ, as the loops compare them. Assumes nothing.
+use Prim.Native.Nat.{ℕ, _+_, _≤_, _<_}
 use mathlib.Core.Path.{_≡_, refl, ap}
-use mathlib.Core.List.{List, [], _∷_, _++_}
+use mathlib.Core.List.{List}
 use mathlib.Core.Bool.{Bool, true, false, not}
 use lib.Bits.{bitXor, xor-self, xor-add-and, and-le-l, and-le-r}
 use lib.Dec.{eqb}
-use lib.ListN.{length, getD, take, drop}
+use lib.ListN.{getD}
 use borrow.Author.Tests.{eq-eqb, ne-eqb, eqb-true, eqb-false, not-false}
 use native.Mathlib.Omega.{arith}
 use Rattle.scan.specs.Below.{someBelow}
@@ -32,12 +32,3 @@ pub equal-more
     → someBelow size (λ j. otherAt a b (k + j)) ≡ false → (j : ℕ) → from ≤ j → j < k + size → getD a j 0 ≡ getD b j 0
 equal-more a b from k size h e j u v =
     eqb-true _ _ (not-false _ (block-more (otherAt a b) from k size (λ i p q. ap not (eq-eqb _ _ (h i p q))) e j u v))
-
--- a list whose first n places hold the bytes of another begins with those
-pub equal-front
-    : (n : ℕ) (a b : List ℕ) → n ≤ length a → n ≤ length b → ((j : ℕ) → j < n → getD a j 0 ≡ getD b j 0) → a ≡ take n b ++ drop n a
-equal-front zero a b l m h = refl
-equal-front (suc n) [] b l m h = absurd (let z : ⊥ = omega arith in z)
-equal-front (suc n) (x ∷ a) [] l m h = absurd (let z : ⊥ = omega arith in z)
-equal-front (suc n) (x ∷ a) (y ∷ b) l m h =
-    rw (h 0 (omega arith)) (ap (λ (t : List ℕ). y ∷ t) (equal-front n a b (omega arith) (omega arith) (λ j u. h (suc j) (omega arith))))

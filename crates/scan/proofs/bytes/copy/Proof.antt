@@ -1,15 +1,16 @@
 -- The first k places hold the bytes of `from`, the others what they held. Assumes nothing.
-use Prim.Native.Nat.{ℕ, _-_, _≤_}
+use Prim.Native.Nat.{ℕ, _+_, _-_, _≤_, _<_}
 use mathlib.Core.List.{_++_}
-use mathlib.Core.Path.{_≡_, refl, _∙_}
+use mathlib.Core.Path.{_≡_, refl, sym, ap, _∙_}
 use native.Mathlib.Omega.{arith}
-use lib.ListN.{length, take, drop, length-set}
+use native.Mathlib.Decide.{decLt}
+use lib.ListN.{length, take, drop}
 use borrow.Author.Needs.{needs}
+use borrow.Rule.Slice.PartMut.{same-len-mid}
 use denote.Ref.{now}
 use Rattle.scan.specs.Order.{lesser}
-use Rattle.scan.proofs.Laws.Bytes.{copy-more, copy-end}
-use Rattle.scan.proofs.Laws.Equal.{equal-front}
-use Rattle.scan.proofs.Laws.Order.{lesser-le}
+use Rattle.scan.proofs.Laws.Bytes.{part-length, copy-part, copy-end}
+use Rattle.scan.proofs.Laws.Order.{lesser-le, lesser-first, lesser-second}
 use Rattle.scan.proofs.bytes.copy.Statement.{statement}
 use Rattle.scan.proofs.bytes.copy.Tie as tie
 
@@ -20,42 +21,86 @@ Inv-loop to₀ from n k₀ to k =
 abbrev μ-loop : tie.MeasureT-loop
 μ-loop to₀ from n k₀ to k = n - k
 
-least-length-requires : tie.Need-least-length-requires Inv-loop μ-loop
-least-length-requires c κs = search needs
-
 bounds : (a b n : ℕ) → n ≡ lesser a b → (n ≤ a) × (n ≤ b)
 bounds a b n e = rw e (lesser-le a b)
 
-skip-requires : tie.Need-skip-requires Inv-loop μ-loop
-skip-requires c κs =
-    let b = bounds _ _ _ (c .before .least-length .ensures) in
-    (b, omega arith, omega arith)
+-- the next bytes: some, 4096 at most, and none past the last
+next : (n k size : ℕ) → k < n → size ≡ lesser 4096 (n - k) → (0 < size) × (size ≤ 4096) × (k + size ≤ n)
+next n k size l e =
+    elim (decLt 4096 (n - k)) [
+      | yes h ↦ let f : size ≡ 4096 = e ∙ lesser-first 4096 (n - k) (omega arith) in (omega arith, omega arith, omega arith)
+      | no h ↦ let f : size ≡ n - k = e ∙ lesser-second 4096 (n - k) (omega arith) in (omega arith, omega arith, omega arith)
+    ]
+
+least-length-requires : tie.Need-least-length-requires Inv-loop μ-loop
+least-length-requires c κs = search needs
 
 loop-holds : tie.Need-loop-holds Inv-loop μ-loop
-loop-holds c =
-    let s = c .skip in
-    let n = c .before .before in
-    let a = n .before .before .before .args in
-    let b = bounds _ _ _ (n .least-length .ensures) in
-    (s .ensures .1, b, refl, equal-front (s .result) (now (a .to)) (now (a .from)) (omega arith) (omega arith) (λ j l. s .ensures .2 j (omega arith) l))
+loop-holds c = (omega arith, bounds _ _ _ (c .least-length .ensures), refl, refl)
 
-shared-slice-read-to : tie.Need-shared-slice-read-to Inv-loop μ-loop
-shared-slice-read-to c = omega arith
+sub-least-length : tie.Need-sub-least-length Inv-loop μ-loop
+sub-least-length c = omega arith
 
-slice-write-to : tie.Need-slice-write-to Inv-loop μ-loop
-slice-write-to c = omega arith
+least-length-requires-2 : tie.Need-least-length-requires-2 Inv-loop μ-loop
+least-length-requires-2 c κs = search needs
 
-add-k : tie.Need-add-k Inv-loop μ-loop
-add-k c = omega arith
+add-end : tie.Need-add-end Inv-loop μ-loop
+add-end c =
+    let s = next _ _ _ (c .before .loop-test .taken) (c .least-length2 .ensures) in
+    omega arith
+
+sub-copy-few : tie.Need-sub-copy-few Inv-loop μ-loop
+sub-copy-few c = omega arith
+
+part-copy-few-start : tie.Need-part-copy-few-start Inv-loop μ-loop
+part-copy-few-start c = omega arith
+
+part-copy-few-end : tie.Need-part-copy-few-end Inv-loop μ-loop
+part-copy-few-end c =
+    let s = next _ _ _ (c .before .loop-test .taken) (c .least-length2 .ensures) in
+    omega arith
+
+sub-copy-few-2 : tie.Need-sub-copy-few-2 Inv-loop μ-loop
+sub-copy-few-2 c = omega arith
+
+part-copy-few-start-2 : tie.Need-part-copy-few-start-2 Inv-loop μ-loop
+part-copy-few-start-2 c = omega arith
+
+part-copy-few-end-2 : tie.Need-part-copy-few-end-2 Inv-loop μ-loop
+part-copy-few-end-2 c =
+    let s = next _ _ _ (c .before .before .loop-test .taken) (c .before .least-length2 .ensures) in
+    omega arith
+
+copy-few-requires : tie.Need-copy-few-requires Inv-loop μ-loop
+copy-few-requires c κs =
+    let k = c .before .before .before .before .loop in
+    let a = c .before .before .before .before .before .before .before .before .args in
+    let s = next _ _ _ (c .before .before .before .loop-test .taken) (c .before .before .least-length2 .ensures) in
+    let size = c .before .before .least-length2 .result in
+    let t = part-length (k .k) size (k .to) (omega arith) in
+    let f = part-length (k .k) size (now (a .from)) (omega arith) in
+    (t ∙ sym f, rw f (s .1))
 
 loop-less : tie.Need-loop-less Inv-loop μ-loop
-loop-less c = omega arith
+loop-less c =
+    let s = next _ _ _ (c .before .before .before .before .before .before .loop-test .taken) (c .before .before .before .before .before .least-length2 .ensures) in
+    omega arith
 
 loop-again : tie.Need-loop-again Inv-loop μ-loop
 loop-again c =
-    let l = c .before .before .loop in
-    let a = c .before .before .before .before .before .before .before .before .args in
-    (omega arith, l .inv .1, simp length-set (l .inv .2), rw (l .inv .3) (copy-more (l .k) (now (a .from)) (now (a .to)) (omega arith) (omega arith)))
+    let w = c .before .before in
+    let p = w .before .before .before in
+    let l = p .before .before .loop in
+    let a = p .before .before .before .before .before .before .args in
+    let s = next _ _ _ (p .before .loop-test .taken) (p .least-length2 .ensures) in
+    let size = p .least-length2 .result in
+    let t = part-length (l .k) size (l .to) (omega arith) in
+    let f = part-length (l .k) size (now (a .from)) (omega arith) in (
+      s .2,
+      l .inv .1,
+      same-len-mid (l .k) (l .k + size - l .k) (l .to) (w .copy-few .last .0) (ap length (w .copy-few .ensures) ∙ f ∙ sym t) ∙ l .inv .2,
+      rw (w .copy-few .ensures, l .inv .3) (copy-part (l .k) (l .k + size) (now (a .from)) (now (a .to)) (omega arith) (omega arith) (omega arith)),
+    )
 
 same-length : tie.Need-same-length Inv-loop μ-loop
 same-length c = omega arith
@@ -63,7 +108,7 @@ same-length c = omega arith
 returns : tie.Need-returns Inv-loop μ-loop
 returns c =
     let l = c .before .loop in
-    let n = c .before .before .before .before in
+    let n = c .before .before in
     let a = n .before .before .before .args in
     let e : l .k ≡ n .least-length .result = omega arith in
     l .inv .3 ∙ copy-end (now (a .from)) (now (a .to)) (l .k) (e ∙ n .least-length .ensures)
@@ -75,11 +120,17 @@ copy-spec =
     Inv-loop
     μ-loop
     least-length-requires
-    skip-requires
     loop-holds
-    shared-slice-read-to
-    slice-write-to
-    add-k
+    sub-least-length
+    least-length-requires-2
+    add-end
+    sub-copy-few
+    part-copy-few-start
+    part-copy-few-end
+    sub-copy-few-2
+    part-copy-few-start-2
+    part-copy-few-end-2
+    copy-few-requires
     loop-less
     loop-again
     same-length
