@@ -102,9 +102,9 @@ fn is_taken(kind: u8) -> bool
 fn check_frame(packet: &[u8], starts: bool) -> Status
     ensures { λ r. ⌜ r ≡ firstOf (fragmentFrame starts (now (packet .entry))) ⌝ }
 {
+    let size = number::u16_at(packet, 13);
     let taken = is_taken(number::u8_at(packet, 12));
-    let fits = header(starts) <= number::u16_at(packet, 13) as usize;
-    frame::check(packet, taken, fits)
+    frame::check(packet, size, taken, header(starts) <= size as usize)
 }
 
 // Those, then 9.
@@ -164,6 +164,13 @@ fn continuation_fields(packet: &[u8]) -> Fragment
 pub fn read(packet: &[u8]) -> FragmentAnswer
     ensures { λ r. ⌜ r ≡ readFragment (now (packet .entry)) ⌝ }
 {
+    // The first check once more, so that no byte of the header needs one below.
+    if packet.len() < frame::LEAST {
+        return FragmentAnswer::Refused {
+            status: Status::Truncated,
+            place: 0,
+        };
+    }
     let starts = number::u8_at(packet, 12) == Start::TYPE;
     let status = check(packet, starts);
     if status::number(status) == 0 {

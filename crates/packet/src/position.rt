@@ -48,9 +48,16 @@ fn fields(packet: &[u8]) -> Position
 pub fn read(packet: &[u8]) -> PositionAnswer
     ensures { λ r. ⌜ r ≡ readPosition (now (packet .entry)) ⌝ }
 {
+    // The first check once more, so that no byte of the header needs one below.
+    if packet.len() < frame::LEAST {
+        return PositionAnswer::Refused {
+            status: Status::Truncated,
+            place: 0,
+        };
+    }
+    let size = number::u16_at(packet, 13);
     let taken = number::u8_at(packet, 12) == Position::TYPE;
-    let fits = number::u16_at(packet, 13) == Position::SIZE;
-    let status = frame::check(packet, taken, fits);
+    let status = frame::check(packet, size, taken, size == Position::SIZE);
     if status::number(status) == 0 {
         PositionAnswer::Accepted(fields(packet))
     } else {

@@ -6,9 +6,6 @@ use Rattle.packet.specs.Frame.{frameChecks}
 use Rattle.packet.proofs.frame.check.Statement.{statement}
 use Rattle.packet.proofs.frame.check.Tie as tie
 
-add-if1 : tie.Need-add-if1
-add-if1 c = search needs
-
 returns : tie.Need-returns
 unfolding firstOf frameChecks
 returns c = simp (lt-ltb _ _ (c .if1 .taken))
@@ -28,39 +25,30 @@ returns-4 : tie.Need-returns-4
 unfolding firstOf frameChecks
 returns-4 c = let h = c .before .before .before in simp (le-ltb _ _ (h .before .if1 .left), ← h .holds .ensures, c .before .before .if2 .left, c .before .if3 .left, c .if4 .taken)
 
-u16-at-requires : tie.Need-u16-at-requires
-u16-at-requires c κs = search needs
-
-cast-end : tie.Need-cast-end
-cast-end c = search needs
-
 add-end : tie.Need-add-end
 add-end c = search needs
 
 returns-5 : tie.Need-returns-5
 unfolding firstOf frameChecks
-returns-5 c = let u = c .before in let h = u .before .before .before .before in simp (le-ltb _ _ (h .before .if1 .left), ← h .holds .ensures, u .before .before .before .if2 .left, u .before .before .if3 .left, u .before .if4 .left, ← u .u16-at .ensures, lt-ltb _ _ (c .if5 .taken))
+returns-5 c = let u = c in let h = u .before .before .before .before in simp (le-ltb _ _ (h .before .if1 .left), ← h .holds .ensures, u .before .before .before .if2 .left, u .before .before .if3 .left, u .before .if4 .left, ← h .before .before .before .pre, lt-ltb _ _ (c .if5 .taken))
 
 returns-6 : tie.Need-returns-6
 unfolding firstOf frameChecks
-returns-6 c = let u = c .before .before in let h = u .before .before .before .before in simp (le-ltb _ _ (h .before .if1 .left), ← h .holds .ensures, u .before .before .before .if2 .left, u .before .before .if3 .left, u .before .if4 .left, ← u .u16-at .ensures, le-ltb _ _ (c .before .if5 .left), lt-ltb _ _ (c .if6 .taken))
+returns-6 c = let u = c .before in let h = u .before .before .before .before in simp (le-ltb _ _ (h .before .if1 .left), ← h .holds .ensures, u .before .before .before .if2 .left, u .before .before .if3 .left, u .before .if4 .left, ← h .before .before .before .pre, le-ltb _ _ (c .before .if5 .left), lt-ltb _ _ (c .if6 .taken))
 
 returns-7 : tie.Need-returns-7
 unfolding firstOf frameChecks
-returns-7 c = let u = c .before .before in let h = u .before .before .before .before in simp (le-ltb _ _ (h .before .if1 .left), ← h .holds .ensures, u .before .before .before .if2 .left, u .before .before .if3 .left, u .before .if4 .left, ← u .u16-at .ensures, le-ltb _ _ (c .before .if5 .left), le-ltb _ _ (c .if6 .left))
+returns-7 c = let u = c .before in let h = u .before .before .before .before in simp (le-ltb _ _ (h .before .if1 .left), ← h .holds .ensures, u .before .before .before .if2 .left, u .before .before .if3 .left, u .before .if4 .left, ← h .before .before .before .pre, le-ltb _ _ (c .before .if5 .left), le-ltb _ _ (c .if6 .left))
 
 pub check-spec : {M : Type 1} → statement M
 check-spec =
     tie.close
     (tie.spec
-    add-if1
     returns
     holds-requires
     returns-2
     returns-3
     returns-4
-    u16-at-requires
-    cast-end
     add-end
     returns-5
     returns-6
