@@ -1,7 +1,7 @@
 // Hexadecimal digits, the most significant first (RFC 5234 section B.1: HEXDIG).
 ghost use mathlib.Core.Path.{_≡_};
 ghost use lib.ListN.{length};
-ghost use Rattle.limits.specs.Hex.{digitValue, readDigits, spellDigits};
+ghost use Rattle.limits.specs.Hex.{digitTable, digitValue, readDigits, spellDigits};
 
 // What bytes say as hexadecimal digits.
 pub enum Digits {
@@ -10,7 +10,7 @@ pub enum Digits {
 }
 
 // The digits of the values 0 to 15, in capitals.
-const DIGITS: [u8; 16] = *b"0123456789ABCDEF";
+pub(crate) const DIGITS: [u8; 16] = *b"0123456789ABCDEF";
 
 // The value of the digit `byte`, in either case; 16 for a byte that is no hexadecimal digit.
 pub fn digit(byte: u8) -> u16
@@ -44,15 +44,17 @@ pub fn read(bytes: &[u8]) -> Digits
     Digits::Number(number)
 }
 
-// Fills `out` with the digits of `number`, in capitals, as many as it has places; what they can't hold is left out.
-pub fn write(out: &mut [u8], number: u16)
+// Fills `out` with the digits of `number`, in capitals, as many as it has places; what they can't hold is left out. `digits` is DIGITS, which
+// is made once for several numbers.
+pub(crate) fn write(out: &mut [u8], digits: &[u8; 16], number: u16)
+    requires { ⌜ now digits ≡ digitTable ⌝ }
     ensures { λ _. ⌜ now (out .exit) ≡ spellDigits (length (now (out .entry))) number ⌝ }
 {
     let mut rest = number;
     let mut k = out.len();
     while 0 < k {
         k -= 1;
-        out[k] = DIGITS[(rest % 16) as usize];
+        out[k] = digits[(rest % 16) as usize];
         rest /= 16;
     }
 }

@@ -3,6 +3,7 @@
 ghost use mathlib.Core.Path.{_≡_};
 ghost use Prim.Native.Nat.{_≤_};
 ghost use lib.ListN.{length};
+ghost use Rattle.limits.specs.Hex.{digitTable};
 ghost use Rattle.limits.specs.Word.{copied};
 ghost use Rattle.limits.specs.Writing.{spellXor, spellField, spellLimits, spelling, writeAnswer};
 use crate::hex;
@@ -13,23 +14,23 @@ use crate::value::Xor;
 use crate::word;
 use wire::status::Status;
 
-// Copies out the word for the xor support.
-fn write_xor(out: &mut [u8], xor: Xor)
-    ensures { λ _. ⌜ now (out .exit) ≡ copied (spellXor xor) (now (out .entry)) ⌝ }
+// The word for the xor support.
+fn word_of(xor: Xor) -> [u8; 4]
+    ensures { λ r. ⌜ r ≡ spellXor xor ⌝ }
 {
     match xor {
-        Xor::None => word::copy(out, b"none"),
-        Xor::Full => word::copy(out, b"full"),
+        Xor::None => *b"none",
+        Xor::Full => *b"full",
     }
 }
 
 // Fills the five bytes with a space and the digits of the number.
-fn write_field(out: &mut [u8], number: u16)
-    requires { ⌜ length (now out) ≡ 5 ⌝ }
+fn write_field(out: &mut [u8], digits: &[u8; 16], number: u16)
+    requires { ⌜ (length (now out) ≡ 5) × (now digits ≡ digitTable) ⌝ }
     ensures { λ _. ⌜ now (out .exit) ≡ spellField number ⌝ }
 {
     out[0] = b' ';
-    hex::write(&mut out[1..5], number);
+    hex::write(&mut out[1..5], digits, number);
 }
 
 // Writes limits into the first 19 bytes.
@@ -38,10 +39,12 @@ fn write_limits(out: &mut [u8], limits: Limits)
     ensures { λ _. ⌜ now (out .exit) ≡ copied (spellLimits limits) (now (out .entry)) ⌝ }
 {
     let xor = limits.xor;
-    write_xor(out, xor);
-    write_field(&mut out[4..9], limits.width);
-    write_field(&mut out[9..14], limits.height);
-    write_field(&mut out[14..19], limits.port);
+    let word = word_of(xor);
+    let digits = hex::DIGITS;
+    word::copy(out, &word);
+    write_field(&mut out[4..9], &digits, limits.width);
+    write_field(&mut out[9..14], &digits, limits.height);
+    write_field(&mut out[14..19], &digits, limits.port);
 }
 
 // Writes a value into the first bytes of `out` and answers their number; where `out` is too short, nothing changes.

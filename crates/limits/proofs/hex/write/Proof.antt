@@ -13,11 +13,11 @@ use Rattle.limits.proofs.hex.write.Statement.{statement}
 use Rattle.limits.proofs.hex.write.Tie as tie
 
 abbrev Inv-loop : tie.InvT-loop
-Inv-loop out₀ number rest₀ k₀ out rest k =
+Inv-loop out₀ digits number rest₀ k₀ out rest k =
     (k ≤ length out) × (length out ≡ length out₀) × (spellDigits k rest ++ drop k out ≡ spellDigits (length out₀) number)
 
 abbrev μ-loop : tie.MeasureT-loop
-μ-loop out₀ number rest₀ k₀ out rest k = k
+μ-loop out₀ digits number rest₀ k₀ out rest k = k
 
 loop-holds : tie.Need-loop-holds Inv-loop μ-loop
 loop-holds c = let out = now (c .args .out) in (omega arith, refl, rw (drop-length out) (append-nil _))
@@ -25,10 +25,11 @@ loop-holds c = let out = now (c .args .out) in (omega arith, refl, rw (drop-leng
 loop-again : tie.Need-loop-again Inv-loop μ-loop
 unfolding digitOf
 loop-again c =
-    let l = c .before .loop in (
+    let l = c .before .before .loop in
+    let s = c .before .before .before in (
       simp length-set (omega arith),
       simp length-set (l .inv .1),
-      write-last (l .k) (l .rest) (l .out) (omega arith) (omega arith) ∙ l .inv .2,
+      rw (s .pre) (write-last (l .k) (l .rest) (l .out) (omega arith) (omega arith)) ∙ l .inv .2,
     )
 
 returns : tie.Need-returns Inv-loop μ-loop
