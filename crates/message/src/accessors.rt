@@ -19,7 +19,7 @@ pub fn rtsp_port(bytes: &[u8], message: Message) -> u16
 {
     let port = message.rtsp_port;
     if port.present {
-        u16_at(bytes, port.at)
+        u16_at(bytes, port.at as usize)
     } else {
         0
     }
@@ -31,7 +31,7 @@ pub fn security_options(bytes: &[u8], message: Message) -> u8
 {
     let options = message.security_options;
     if options.present {
-        u8_at(bytes, options.at)
+        u8_at(bytes, options.at as usize)
     } else {
         0
     }
@@ -56,7 +56,7 @@ pub fn source_id(bytes: &[u8], message: Message) -> SourceId
     ensures { λ r. ⌜ r ≡ sourceOf (now (bytes .entry)) message ⌝ }
 {
     let source = message.source_id;
-    let at = source.at;
+    let at = source.at as usize;
     if source.present {
         if 16 <= bytes.len() {
             if at <= bytes.len() - 16 {

@@ -144,8 +144,9 @@ fn last(size: usize, message: Message) -> Answer
     }
 }
 
-// The TLVs after the header, from left to right. Each value goes to its field in place: as a whole the record is not moved.
+// The TLVs after the header, from left to right; the bytes are as many as Size says, so that two bytes hold their number. Each value goes to its field in place: as a whole the record is not moved.
 fn read_tlvs(bytes: &[u8], first: Message) -> Answer
+    requires { ⌜ length (now bytes) ≤ 65535 ⌝ }
     ensures { λ r. ⌜ r ≡ tlvsFrom (length (now (bytes .entry))) (now (bytes .entry)) 4 first ⌝ }
 {
     let mut at = 4;
@@ -155,8 +156,8 @@ fn read_tlvs(bytes: &[u8], first: Message) -> Answer
             Tlv::Right { kind, len } => {
                 let value = Field {
                     present: true,
-                    at: at + 3,
-                    len,
+                    at: (at + 3) as u32,
+                    len: len as u32,
                 };
                 at = at + 3 + len;
                 match kind {

@@ -1,12 +1,12 @@
 // The record of a message: its command, and for each TLV type whether it is there, and the place and the length of its value in the
 // lent bytes. Where a value is not there, its place and length are not looked at.
 ghost use mathlib.Core.Path.{_≡_};
-ghost use Rattle.message.specs.Record.{fieldOf, withField, emptyOf};
+ghost use Rattle.message.specs.Record.{fieldOf, emptyOf};
 // The value of a TLV: whether it is there, and its place and length in the lent bytes.
 pub struct Field {
     pub present: bool,
-    pub at: usize,
-    pub len: usize,
+    pub at: u32,
+    pub len: u32,
 }
 
 pub struct Message {
@@ -59,22 +59,4 @@ pub fn field_of(message: Message, kind: u8) -> Field
             len: 0,
         },
     }
-}
-
-// The record with another field for a TLV type; for a type that it doesn't have, the record as it was.
-pub fn with_field(message: Message, kind: u8, value: Field) -> Message
-    ensures { λ r. ⌜ r ≡ withField message kind value ⌝ }
-{
-    let mut message = message;
-    match kind {
-        0 => message.friendly_name = value,
-        2 => message.rtsp_port = value,
-        3 => message.source_id = value,
-        4 => message.security_token = value,
-        5 => message.security_options = value,
-        6 => message.pin_challenge = value,
-        7 => message.pin_reason = value,
-        _ => {}
-    }
-    message
 }

@@ -32,13 +32,15 @@ fn field_ok(n: usize, message: Message, kind: u8) -> bool
     if part == rules::FOREIGN {
         return false;
     }
-    if n < value.at {
+    let at = value.at as usize;
+    let len = value.len as usize;
+    if n < at {
         return false;
     }
-    if n - value.at < value.len {
+    if n - at < len {
         return false;
     }
-    rules::length_ok(kind, value.len)
+    rules::length_ok(kind, len)
 }
 
 // Whether each of the record's fields can be written.
@@ -65,7 +67,7 @@ fn size_of(n: usize, message: Message) -> usize
     while kind < 8 {
         let value = record::field_of(message, kind);
         if value.present {
-            size = size + 3 + value.len;
+            size = size + 3 + value.len as usize;
         }
         kind += 1;
     }
@@ -89,8 +91,8 @@ fn put_tlv(bytes: &[u8], kind: u8, value: Field, out: &mut [u8], at: usize) -> u
     requires { ⌜ (value .at + value .len ≤ length (now bytes)) × (value .len ≤ 65535) × (at + 3 + value .len ≤ length (now out)) ⌝ }
     ensures { λ r. ⌜ (r ≡ at + 3 + value .len) × (now (out .exit) ≡ splice at (tlvBytes (now (bytes .entry)) kind value) (now (out .entry))) ⌝ }
 {
-    let from = value.at;
-    let len = value.len;
+    let from = value.at as usize;
+    let len = value.len as usize;
     let to = from + len;
     let start = at + 3;
     let end = start + len;

@@ -31,8 +31,8 @@ fn field_at(record: &[u8], at: usize) -> Field
 {
     Field {
         present: u8_at(record, at) != 0,
-        at: u32_at(record, at + 1) as usize,
-        len: u32_at(record, at + 5) as usize,
+        at: u32_at(record, at + 1),
+        len: u32_at(record, at + 5),
     }
 }
 
@@ -65,8 +65,8 @@ fn write_field(record: &mut [u8], at: usize, field: Field)
     ensures { λ _. ⌜ now («record» .exit) ≡ splice at (fieldBytes field) (now («record» .entry)) ⌝ }
 {
     put_u8(record, at, field.present as u8);
-    put_u32(record, at + 1, (field.at % 4294967296) as u32);
-    put_u32(record, at + 5, (field.len % 4294967296) as u32);
+    put_u32(record, at + 1, field.at);
+    put_u32(record, at + 5, field.len);
 }
 
 // Writes the record; where the bytes are fewer than its layout's, nothing changes.

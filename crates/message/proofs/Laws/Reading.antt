@@ -7,13 +7,14 @@ use mathlib.Core.Logic.{inl, inr}
 use native.Mathlib.Omega.{arith}
 use borrow.Author.Tests.{ltb-true, ltb-false, lt-ltb, le-ltb, eqb-true, eqb-false, eq-eqb, ne-eqb, not-true, not-false}
 use lib.Dec.{ltb, eqb}
-use lib.ListN.{length}
+use lib.ListN.{length, getD}
 use Rattle.wire.specs.declared.status.Status.{Status}
 use Rattle.wire.specs.declared.status.Status.the-variants as status
 use Rattle.message.specs.declared.record.Message.{Message}
 use Rattle.message.specs.declared.reader.Answer.{Answer}
 use Rattle.message.specs.declared.reader.Answer.the-variants as answer
 use Rattle.message.specs.declared.reader.Header.{Header}
+use Rattle.message.specs.declared.reader.Header.the-variants as header
 use Rattle.message.specs.Rules.{roleOf, foreign, needed, lengthOk, knownCommand}
 use Rattle.message.specs.Record.{fieldOf, withField, emptyOf}
 use Rattle.message.specs.Reading.{sizeIn, versionIn, commandIn, headerOf, typeAt, lengthAt, nextAt, valueAt, tlvAt}
@@ -22,6 +23,7 @@ use Rattle.message.specs.Theorems.{Headed, Taken, Reached, Fault, Refusa
 use Rattle.message.specs.Reading as step
 use Rattle.message.specs.Theorems as given
 use Rattle.wire.proofs.Laws.Bool.{by-test, not-both}
+use Rattle.wire.proofs.Laws.Number.{number-small}
 use Rattle.message.proofs.Laws.Rules.{type-small}
 use Rattle.wire.proofs.Laws.Below.{below-all, all-below, one-below, one-fails}
 
@@ -166,10 +168,15 @@ of-tlvs s h (suc k) at m r a f =
     (λ e. after-step s at m k h r (ltb-true at (length s) e) f (of-tlvs s h k) (tlvAt s at m) (of-step s at m))
     (λ e. let b = ltb-false at (length s) e in let q : at ≡ length s = omega arith in of-last s m h (subst (λ (i : ℕ). Reached s i m) q r))
 
-of-read : (s : List ℕ) → OfAnswer s (readMessage s)
-unfolding readMessage headerOf
-of-read s =
-    let P : Header → Type 0 = λ x. OfAnswer s (afterHeader s x) in
+-- what the header's answer says
+abbrev OfHeader : List ℕ → Header → Type 0
+OfHeader s (header.Command c) = Headed s × (c ≡ commandIn s)
+OfHeader s (header.Refused st) = Refusal s st 0
+
+of-header : (s : List ℕ) → OfHeader s (headerOf s)
+unfolding headerOf
+of-header s =
+    let P = OfHeader s in
     by-test P (ltb (length s) 4) _ _ (λ e. given.before-header (ltb-true (length s) 4 e))
     (λ a.
     let four = ltb-false (length s) 4 a in
@@ -185,9 +192,26 @@ of-read s =
     (λ v.
     let one = eqb-true (versionIn s) 1 (not-false (eqb (versionIn s) 1) v) in
     by-test P (not (knownCommand (commandIn s))) _ _ (λ e. given.command four all one (not-true (knownCommand (commandIn s)) e))
-    (λ k.
-    let h : Headed s = record { four = four; size = all; version = one; command = not-false (knownCommand (commandIn s)) k } in
-    of-tlvs s h (length s) 4 (emptyOf (commandIn s)) given.start four (omega arith)))))))
+    (λ k. (record { four = four; size = all; version = one; command = not-false (knownCommand (commandIn s)) k }, refl)))))))
+
+pub headed : (s : List ℕ) (c : ℕ) → headerOf s ≡ header.Command c → Headed s × (c ≡ commandIn s)
+headed s c e = subst (OfHeader s) e (of-header s)
+
+-- Size is a number of two bytes
+pub headed-short : (s : List ℕ) → ((k : ℕ) → getD s k 0 < 256) → Headed s → length s ≤ 65535
+headed-short s small h =
+    let e = h .size in
+    let n = number-small 2 0 s small in
+    omega arith
+
+after-header : (s : List ℕ) (x : Header) → OfHeader s x → OfAnswer s (afterHeader s x)
+after-header s (header.Command c) p =
+    let h = p .0 in rw (p .1) (of-tlvs s h (length s) 4 (emptyOf (commandIn s)) given.start (h .four) (omega arith))
+after-header s (header.Refused st) p = p
+
+of-read : (s : List ℕ) → OfAnswer s (readMessage s)
+unfolding readMessage
+of-read s = after-header s (headerOf s) (of-header s)
 
 -- a right header leaves the TLVs to be read
 headed-read : (s : List ℕ) → Headed s → readMessage s ≡ tlvsFrom (length s) s 4 (emptyOf (commandIn s))

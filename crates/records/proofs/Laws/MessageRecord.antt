@@ -1,5 +1,5 @@
 -- Fields written one right after the other are the record's bytes, and each reads back at its place. Assumes nothing.
-use Prim.Native.Nat.{ℕ, _+_, _%_, _^_, _≤_, _<_}
+use Prim.Native.Nat.{ℕ, _+_, _^_, _≤_, _<_}
 use mathlib.Core.Path.{_≡_, sym, _∙_}
 use mathlib.Core.List.{List, [], _++_, append-assoc}
 use mathlib.Core.Logic.{⊎-elim}
@@ -23,7 +23,7 @@ use Rattle.records.specs.Layout.{flag, laid}
 use Rattle.records.specs.Little.{bytes, written}
 use Rattle.records.specs.MessageRecord.{fieldBytes, fieldIn, messageBytes, messageIn, Held, MessageBack, AcceptedBack}
 use Rattle.records.proofs.Laws.Layout.{nothing, next, next-part, whole, Begins, laid-begins, before-part, before, number-in, flag-in}
-use Rattle.records.proofs.Laws.Little.{length-bytes, bytes-modulo}
+use Rattle.records.proofs.Laws.Little.{length-bytes}
 
 pub length-field : (f : Field) → length (fieldBytes f) ≡ 9
 unfolding fieldBytes
@@ -35,13 +35,13 @@ length-message m = simp (length-append, length-bytes, length-field)
 
 pub field-written
     : (f : Field) (at : ℕ) (xs ys zs ws : List ℕ) → at + 9 ≤ length xs → ys ≡ written 1 (flag (f .present)) at xs
-    → zs ≡ written 4 (f .at % 256 ^ 4) (at + 1) ys → ws ≡ written 4 (f .len % 256 ^ 4) (at + 5) zs → ws ≡ splice at (fieldBytes f) xs
+    → zs ≡ written 4 (f .at) (at + 1) ys → ws ≡ written 4 (f .len) (at + 5) zs → ws ≡ splice at (fieldBytes f) xs
 unfolding fieldBytes
 field-written f at xs ys zs ws h p q r =
     let i : at + 5 ≡ at + 1 + 4 = omega arith in
     let present = next (nothing at xs) 1 (flag (f .present)) p (omega arith) in
-    let place = next present 4 (f .at % 256 ^ 4) q (omega arith) in
-    next place 4 (f .len % 256 ^ 4) (rw i at r) (omega arith) .all ∙ rw (bytes-modulo 4 (f .at), bytes-modulo 4 (f .len))
+    let place = next present 4 (f .at) q (omega arith) in
+    next place 4 (f .len) (rw i at r) (omega arith) .all
 
 pub message-written
     : (m : Message) (xs a b d e f g h i : List ℕ) → 64 ≤ length xs → a ≡ written 1 (m .command) 0 xs

@@ -4,16 +4,19 @@ use borrow.Author.Needs.{needs}
 use Rattle.message.proofs.accessors.rtsp_port.Statement.{statement}
 use Rattle.message.proofs.accessors.rtsp_port.Tie as tie
 
+cast-u16-at : tie.Need-cast-u16-at
+cast-u16-at c = search needs
+
 u16-at-requires : tie.Need-u16-at-requires
 u16-at-requires c κs = search needs
 
 returns : tie.Need-returns
 unfolding portOf
-returns c = simp (c .before .if1 .taken, ← c .u16-at .ensures)
+returns c = simp (c .before .before .if1 .taken, ← c .u16-at .ensures)
 
 returns-2 : tie.Need-returns-2
 unfolding portOf
 returns-2 c = simp (c .if1 .left)
 
 pub rtsp-port-spec : {M : Type 1} → statement M
-rtsp-port-spec = tie.close (tie.spec u16-at-requires returns returns-2)
+rtsp-port-spec = tie.close (tie.spec cast-u16-at u16-at-requires returns returns-2)

@@ -4,16 +4,19 @@ use borrow.Author.Needs.{needs}
 use Rattle.message.proofs.accessors.security_options.Statement.{statement}
 use Rattle.message.proofs.accessors.security_options.Tie as tie
 
+cast-u8-at : tie.Need-cast-u8-at
+cast-u8-at c = search needs
+
 u8-at-requires : tie.Need-u8-at-requires
 u8-at-requires c κs = search needs
 
 returns : tie.Need-returns
 unfolding optionsOf
-returns c = simp (c .before .if1 .taken, ← c .u8-at .ensures)
+returns c = simp (c .before .before .if1 .taken, ← c .u8-at .ensures)
 
 returns-2 : tie.Need-returns-2
 unfolding optionsOf
 returns-2 c = simp (c .if1 .left)
 
 pub security-options-spec : {M : Type 1} → statement M
-security-options-spec = tie.close (tie.spec u8-at-requires returns returns-2)
+security-options-spec = tie.close (tie.spec cast-u8-at u8-at-requires returns returns-2)

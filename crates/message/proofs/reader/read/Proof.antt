@@ -1,6 +1,11 @@
 -- The header's answer decides, as in the definition. Assumes nothing.
-use Rattle.message.specs.Reading.{readMessage}
+use Prim.Native.Nat.{ℕ}
+use mathlib.Core.Path.{sym, _∙_}
+use native.Mathlib.Omega.{arith}
 use borrow.Author.Needs.{needs}
+use denote.Ref.{now}
+use Rattle.message.specs.Reading.{readMessage}
+use Rattle.message.proofs.Laws.Reading.{headed, headed-short}
 use Rattle.message.proofs.reader.read.Statement.{statement}
 use Rattle.message.proofs.reader.read.Tie as tie
 
@@ -14,7 +19,11 @@ empty-requires : tie.Need-empty-requires
 empty-requires c κs = search needs
 
 read-tlvs-requires : tie.Need-read-tlvs-requires
-read-tlvs-requires c κs = search needs
+read-tlvs-requires c κs =
+    let start = c .before .before .before .before .before in
+    let header = c .before .before .before .before .read-header in
+    let s = now (start .before .args .bytes) in
+    headed-short s (λ (k : ℕ). omega (arith, start .shared-slice-known .given k)) (headed s _ (sym (header .ensures) ∙ c .before .before .command .given .1) .0)
 
 enum-known-status : tie.Need-enum-known-status
 enum-known-status c = search needs

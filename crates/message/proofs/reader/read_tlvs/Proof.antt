@@ -61,14 +61,20 @@ read-tlv-requires c κs = omega arith
 enum-known-kind : tie.Need-enum-known-kind Inv-loop μ-loop
 enum-known-kind c = search needs
 
+add-t12 : tie.Need-add-t12 Inv-loop μ-loop
+add-t12 c = omega (arith, found c .1)
+
+cast-t13 : tie.Need-cast-t13 Inv-loop μ-loop
+cast-t13 c = omega (arith, found c .1)
+
+cast-t14 : tie.Need-cast-t14 Inv-loop μ-loop
+cast-t14 c = omega (arith, found c .1)
+
 add-at : tie.Need-add-at Inv-loop μ-loop
 add-at c = omega (arith, found c .1)
 
 add-at-2 : tie.Need-add-at-2 Inv-loop μ-loop
 add-at-2 c = omega (arith, found c .1)
-
-add-at-3 : tie.Need-add-at-3 Inv-loop μ-loop
-add-at-3 c = omega (arith, found c .1)
 
 loop-less : tie.Need-loop-less Inv-loop μ-loop
 loop-less c = let t = found (c .before) in omega (arith, t .0, t .1)
@@ -164,9 +170,11 @@ read-tlvs-spec =
     loop-holds
     read-tlv-requires
     enum-known-kind
+    add-t12
+    cast-t13
+    cast-t14
     add-at
     add-at-2
-    add-at-3
     loop-less
     loop-again
     loop-less-2

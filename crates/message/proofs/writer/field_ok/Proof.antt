@@ -30,13 +30,19 @@ returns-2 c =
       eq-eqb _ _ (c .if2 .taken),
     )
 
+cast-at : tie.Need-cast-at
+cast-at c = search needs
+
+cast-len : tie.Need-cast-len
+cast-len c = search needs
+
 returns-3 : tie.Need-returns-3
 unfolding fieldOk
 returns-3 c =
-    let field-of = c .before .before .before .before .before .field-of in
-    let role = c .before .before .before .before .before .before .role in
-    let if1 = c .before .before .before .if1 in
-    let if2 = c .before .before .if2 in
+    let field-of = c .before .before .before .before .before .before .field-of in
+    let role = c .before .before .before .before .before .before .before .role in
+    let if1 = c .before .before .before .before .if1 in
+    let if2 = c .before .before .before .if2 in
     simp (
       ← field-of .ensures,
       ← role .ensures,
@@ -48,17 +54,16 @@ returns-3 c =
 returns-4 : tie.Need-returns-4
 unfolding fieldOk
 returns-4 c =
-    let field-of = c .before .before .before .before .before .before .before .before .field-of in
-    let role = c .before .before .before .before .before .before .before .before .before .role in
-    let if1 = c .before .before .before .before .before .before .if1 in
-    let if2 = c .before .before .before .before .before .if2 in
-    let if3 = c .before .before .before .if3 in
+    let field-of = c .before .before .before .before .before .before .before .field-of in
+    let role = c .before .before .before .before .before .before .before .before .role in
+    let if1 = c .before .before .before .before .before .if1 in
+    let if2 = c .before .before .before .before .if2 in
     simp (
       ← field-of .ensures,
       ← role .ensures,
       not-false (field-of .result .present) (if1 .left),
       ne-eqb _ _ (if2 .left),
-      le-leb _ _ (if3 .left),
+      le-leb _ _ (c .before .if3 .left),
       lt-leb _ _ (c .if4 .taken),
     )
 
@@ -68,11 +73,11 @@ length-ok-requires c κs = search needs
 returns-5 : tie.Need-returns-5
 unfolding fieldOk
 returns-5 c =
-    let field-of = c .before .before .before .before .before .before .before .before .before .field-of in
-    let role = c .before .before .before .before .before .before .before .before .before .before .role in
-    let if1 = c .before .before .before .before .before .before .before .if1 in
-    let if2 = c .before .before .before .before .before .before .if2 in
-    let if3 = c .before .before .before .before .if3 in
+    let field-of = c .before .before .before .before .before .before .before .before .field-of in
+    let role = c .before .before .before .before .before .before .before .before .before .role in
+    let if1 = c .before .before .before .before .before .before .if1 in
+    let if2 = c .before .before .before .before .before .if2 in
+    let if3 = c .before .before .if3 in
     simp (
       ← field-of .ensures,
       ← role .ensures,
@@ -91,6 +96,8 @@ field-ok-spec =
     field-of-requires
     returns
     returns-2
+    cast-at
+    cast-len
     returns-3
     returns-4
     length-ok-requires

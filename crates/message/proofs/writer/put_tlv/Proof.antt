@@ -32,6 +32,12 @@ laid s kind f at n xs ys zs vs small inside h p q v e =
     (next-number 2 (f .len) at (at + 1) (bytes 1 kind) xs ys zs (omega arith) (omega arith) (first-number 1 kind at xs ys (omega arith) p) q) refl
     ∙ rw (v, one-byte kind small)
 
+cast-from : tie.Need-cast-from
+cast-from c = search needs
+
+cast-len : tie.Need-cast-len
+cast-len c = search needs
+
 add-to : tie.Need-add-to
 add-to c = search needs
 
@@ -82,7 +88,7 @@ returns c =
     let put-u8 = c .before .before .before .before .before .before .before .before .before .before .before .put-u8 in
     let put-u16 = c .before .before .before .before .before .before .before .put-u16 in
     let copy = c .before .before .copy in
-    let a = c .before .before .before .before .before .before .before .before .before .before .before .before .before .before .before .args in
+    let a = c .before .before .before .before .before .before .before .before .before .before .before .before .before .before .before .before .before .args in
     let f = a .value in
     let e : f .at + f .len - f .at ≡ f .len = omega arith in (
       refl,
@@ -94,6 +100,8 @@ pub put-tlv-spec : {M : Type 1} → statement M
 put-tlv-spec =
     tie.close
     (tie.spec
+    cast-from
+    cast-len
     add-to
     add-start
     add-end

@@ -35,6 +35,9 @@ field-of-requires c κs = search needs
 add-size : tie.Need-add-size Inv-loop μ-loop
 add-size c = omega arith
 
+cast-size : tie.Need-cast-size Inv-loop μ-loop
+cast-size c = search needs
+
 add-size-2 : tie.Need-add-size-2 Inv-loop μ-loop
 add-size-2 c =
     let args = c .before .before .before .before .before .args in
@@ -83,6 +86,7 @@ size-of-spec =
     loop-holds
     field-of-requires
     add-size
+    cast-size
     add-size-2
     add-kind
     loop-less

@@ -13,17 +13,11 @@ add-u32-at c = search needs
 u32-at-requires : tie.Need-u32-at-requires
 u32-at-requires c κs = search needs
 
-cast-t7 : tie.Need-cast-t7
-cast-t7 c = search needs
-
 add-u32-at-2 : tie.Need-add-u32-at-2
 add-u32-at-2 c = search needs
 
 u32-at-requires-2 : tie.Need-u32-at-requires-2
 u32-at-requires-2 c κs = search needs
-
-cast-t10 : tie.Need-cast-t10
-cast-t10 c = search needs
 
 returns : tie.Need-returns
 unfolding fieldIn
@@ -36,8 +30,6 @@ field-at-spec =
     u8-at-requires
     add-u32-at
     u32-at-requires
-    cast-t7
     add-u32-at-2
     u32-at-requires-2
-    cast-t10
     returns)

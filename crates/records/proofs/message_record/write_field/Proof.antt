@@ -18,17 +18,11 @@ put-u8-requires c κs = search needs
 add-put-u32 : tie.Need-add-put-u32
 add-put-u32 c = search needs
 
-cast-put-u32 : tie.Need-cast-put-u32
-cast-put-u32 c = search needs
-
 put-u32-requires : tie.Need-put-u32-requires
 put-u32-requires c κs = search needs
 
 add-put-u32-2 : tie.Need-add-put-u32-2
 add-put-u32-2 c = search needs
-
-cast-put-u32-2 : tie.Need-cast-put-u32-2
-cast-put-u32-2 c = search needs
 
 put-u32-requires-2 : tie.Need-put-u32-requires-2
 put-u32-requires-2 c κs = search needs
@@ -39,8 +33,8 @@ same-length c = search needs
 returns : tie.Need-returns
 returns c =
     let l = c .before .before in
-    let a = l .before .before .before .before .before in
-    let p = a .before .before .before .before .before in
+    let a = l .before .before .before .before in
+    let p = a .before .before .before .before in
     let s = p .before .before .before .before in
     field-written (s .args .field) (s .args .at) (now (s .args .«record»)) _ _ _ (s .pre) (p .put-u8 .ensures .1 ∙ ap (λ (b : ℕ). written 1 b (s .args .at) (now (s .args .«record»))) (flag-byte (s .args .field .present)))
     (a .put-u32 .ensures .1) (l .put-u322 .ensures .1)
@@ -52,10 +46,8 @@ write-field-spec =
     cast-put-u8
     put-u8-requires
     add-put-u32
-    cast-put-u32
     put-u32-requires
     add-put-u32-2
-    cast-put-u32-2
     put-u32-requires-2
     same-length
     returns)
