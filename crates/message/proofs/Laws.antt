@@ -1,6 +1,7 @@
 pub mod Rules
 pub mod Record
 pub mod Reading
+pub mod Checking
 pub mod Writing
 pub mod WithField
 pub mod WellFormed

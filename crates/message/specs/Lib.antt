@@ -1,6 +1,7 @@
 pub mod Rules
 pub mod Record
 pub mod Reading
+pub mod Checking
 pub mod Accessors
 pub mod Writing
 pub mod Examples

@@ -14,8 +14,6 @@ use Rattle.message.specs.declared.reader.Answer.{Answer}
 use Rattle.message.specs.declared.reader.Answer.the-variants as answer
 use Rattle.message.specs.declared.reader.Header.{Header}
 use Rattle.message.specs.declared.reader.Header.the-variants as header
-use Rattle.message.specs.declared.reader.Tlv.{Tlv}
-use Rattle.message.specs.declared.reader.Tlv.the-variants as tlv
 use Rattle.message.specs.Rules.{roleOf, foreign, needed, lengthOk, knownCommand}
 use Rattle.wire.specs.Below.{allBelow}
 use Rattle.message.specs.Record.{fieldOf, withField, emptyOf}
@@ -68,12 +66,6 @@ tlvAt s at m =
     (cond (not (lengthOk (typeAt s at) (lengthAt s at))) (Refused status.TlvLength at)
     (cond (fieldOf m (typeAt s at) .present) (Refused status.TlvRepeated at)
     (Known (nextAt s at) (withField m (typeAt s at) (valueAt s at)))))))
-
--- what the code's answer to the TLV at `at`, after those of m, says: for its type t and the length n of its value, the place after it and m
--- with that value
-abbrev pub stepOf : ℕ → Message → Tlv → Step
-stepOf at m (tlv.Right t n) = Known (at + 3 + n) (withField m t (record { present = true; at = at + 3; len = n }))
-stepOf at m (tlv.Refused st) = Refused st at
 
 -- if the command needs type t, it is there
 unfoldable pub hasNeeded : Message → ℕ → Bool

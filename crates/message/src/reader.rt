@@ -1,14 +1,20 @@
-// Reads a connection message: a header, then TLVs in any order. No value is copied: the record has its place and length.
+// Reads a connection message: a header, then TLVs in any order. It is checked first, and the record of one that is accepted is made after
+// that. No value is copied: the record has its place and length.
 ghost use mathlib.Core.Path.{_≡_};
 ghost use Prim.Native.Nat.{_≤_};
 ghost use lib.ListN.{length};
-ghost use Rattle.message.specs.Reading.{headerOf, tlvAt, stepOf, hasNeeded, isComplete, lastOf, tlvsFrom, readMessage};
+ghost use Rattle.wire.specs.Below.{allBelow};
+ghost use Rattle.message.specs.declared.reader.Answer.the-variants.{Accepted};
+ghost use Rattle.message.specs.Record.{emptyOf};
+ghost use Rattle.message.specs.Reading.{headerOf, tlvsFrom, readMessage};
+ghost use Rattle.message.specs.Checking.{tlvOf, thereIfNeeded, seenIfNeeded, verdictOf, IsAccepted};
 use crate::record;
 use crate::record::Field;
 use crate::record::Message;
 use crate::rules;
 use wire::number::u16_at;
 use wire::status::Status;
+use wire::status::number;
 
 // What reading gives: the message's record, or the refusal and its place.
 pub enum Answer {
@@ -26,6 +32,12 @@ enum Header {
 enum Tlv {
     Right { kind: u8, len: usize },
     Refused { status: Status },
+}
+
+// What checking gives: Accepted and place 0, or the refusal and its place.
+struct Verdict {
+    status: Status,
+    place: usize,
 }
 
 // The command of a message, or what its size, version or command is refused with.
@@ -67,10 +79,10 @@ fn read_header(bytes: &[u8]) -> Header
     Header::Command(command)
 }
 
-// The TLV at `at`, after those that the record has.
-fn read_tlv(bytes: &[u8], at: usize, message: Message) -> Tlv
+// The TLV at `at` in a message of this command; whether it is there for the second time is not looked at.
+fn check_tlv(bytes: &[u8], at: usize, command: u8) -> Tlv
     requires { ⌜ at ≤ length (now bytes) ⌝ }
-    ensures { λ r. ⌜ stepOf at message r ≡ tlvAt (now (bytes .entry)) at message ⌝ }
+    ensures { λ r. ⌜ r ≡ tlvOf (now (bytes .entry)) at command ⌝ }
 {
     let left = bytes.len() - at;
     if left < 3 {
@@ -85,7 +97,7 @@ fn read_tlv(bytes: &[u8], at: usize, message: Message) -> Tlv
             status: Status::TlvTruncated,
         };
     }
-    if rules::role(message.command, kind) == rules::FOREIGN {
+    if rules::role(command, kind) == rules::FOREIGN {
         return Tlv::Refused {
             status: Status::TlvUnexpected,
         };
@@ -95,34 +107,27 @@ fn read_tlv(bytes: &[u8], at: usize, message: Message) -> Tlv
             status: Status::TlvLength,
         };
     }
-    let former = record::field_of(message, kind);
-    if former.present {
-        return Tlv::Refused {
-            status: Status::TlvRepeated,
-        };
-    }
     Tlv::Right { kind, len }
 }
 
 // Whether the TLV of this type is there, if the command needs it.
-fn has(message: Message, kind: u8) -> bool
-    ensures { λ r. ⌜ r ≡ hasNeeded message kind ⌝ }
+fn has(command: u8, kind: u8, there: bool) -> bool
+    ensures { λ r. ⌜ r ≡ thereIfNeeded command kind there ⌝ }
 {
-    if rules::role(message.command, kind) == rules::NEEDED {
-        let found = record::field_of(message, kind);
-        found.present
+    if rules::role(command, kind) == rules::NEEDED {
+        there
     } else {
         true
     }
 }
 
-// Whether every TLV that the command needs is there.
-fn complete(message: Message) -> bool
-    ensures { λ r. ⌜ r ≡ isComplete message ⌝ }
+// Whether every TLV that the command needs was seen.
+fn all_needed(command: u8, seen: &[bool; 8]) -> bool
+    ensures { λ r. ⌜ r ≡ allBelow 8 (seenIfNeeded command (now (seen .entry))) ⌝ }
 {
     let mut kind: u8 = 0;
     while kind < 8 {
-        if !has(message, kind) {
+        if !has(command, kind, seen[kind as usize]) {
             return false;
         }
         kind += 1;
@@ -130,61 +135,93 @@ fn complete(message: Message) -> bool
     true
 }
 
-// The answer once every TLV is read, `size` being the size of the message.
-fn last(size: usize, message: Message) -> Answer
-    ensures { λ r. ⌜ r ≡ lastOf size message ⌝ }
+// The TLVs after the header, from left to right, and last whether one is missing.
+fn check_tlvs(bytes: &[u8], command: u8) -> Verdict
+    ensures { λ r. ⌜ r ≡ verdictOf (tlvsFrom (length (now (bytes .entry))) (now (bytes .entry)) 4 (emptyOf command)) ⌝ }
 {
-    if complete(message) {
-        Answer::Accepted(message)
+    let mut at = 4;
+    let mut seen = [false; 8];
+    while at < bytes.len() {
+        match check_tlv(bytes, at, command) {
+            Tlv::Right { kind, len } => {
+                if seen[kind as usize] {
+                    return Verdict {
+                        status: Status::TlvRepeated,
+                        place: at,
+                    };
+                }
+                seen[kind as usize] = true;
+                at = at + 3 + len;
+            }
+            Tlv::Refused { status } => {
+                return Verdict { status, place: at };
+            }
+        }
+    }
+    if all_needed(command, &seen) {
+        Verdict {
+            status: Status::Accepted,
+            place: 0,
+        }
     } else {
-        Answer::Refused {
+        Verdict {
             status: Status::TlvUnexpected,
-            place: size,
+            place: bytes.len(),
         }
     }
 }
 
-// The TLVs after the header, from left to right; the bytes are as many as Size says, so that two bytes hold their number. Each value goes to its field in place: as a whole the record is not moved.
-fn read_tlvs(bytes: &[u8], first: Message) -> Answer
-    requires { ⌜ length (now bytes) ≤ 65535 ⌝ }
-    ensures { λ r. ⌜ r ≡ tlvsFrom (length (now (bytes .entry))) (now (bytes .entry)) 4 first ⌝ }
+// Whether a message is accepted, and if not, its refusal.
+fn check(bytes: &[u8]) -> Verdict
+    ensures { λ r. ⌜ r ≡ verdictOf (readMessage (now (bytes .entry))) ⌝ }
+{
+    match read_header(bytes) {
+        Header::Command(command) => check_tlvs(bytes, command),
+        Header::Refused { status } => Verdict { status, place: 0 },
+    }
+}
+
+// The record of an accepted message. Each value goes to its field in place: as a whole the record is not moved.
+fn fields(bytes: &[u8]) -> Message
+    requires { ⌜ IsAccepted (readMessage (now bytes)) ⌝ }
+    ensures { λ r. ⌜ Accepted r ≡ readMessage (now (bytes .entry)) ⌝ }
 {
     let mut at = 4;
-    let mut message = first;
+    let mut message = record::empty(bytes[3]);
     while at < bytes.len() {
-        match read_tlv(bytes, at, message) {
-            Tlv::Right { kind, len } => {
-                let value = Field {
-                    present: true,
-                    at: (at + 3) as u32,
-                    len: len as u32,
-                };
-                at = at + 3 + len;
-                match kind {
-                    0 => message.friendly_name = value,
-                    2 => message.rtsp_port = value,
-                    3 => message.source_id = value,
-                    4 => message.security_token = value,
-                    5 => message.security_options = value,
-                    6 => message.pin_challenge = value,
-                    7 => message.pin_reason = value,
-                    _ => {}
-                }
-            }
-            Tlv::Refused { status } => {
-                return Answer::Refused { status, place: at };
-            }
+        let kind = bytes[at];
+        let len = u16_at(bytes, at + 1);
+        let value = Field {
+            present: true,
+            at: (at + 3) as u32,
+            len: len as u32,
+        };
+        at = at + 3 + len as usize;
+        match kind {
+            0 => message.friendly_name = value,
+            2 => message.rtsp_port = value,
+            3 => message.source_id = value,
+            4 => message.security_token = value,
+            5 => message.security_options = value,
+            6 => message.pin_challenge = value,
+            7 => message.pin_reason = value,
+            _ => {}
         }
     }
-    last(bytes.len(), message)
+    message
 }
 
 // Reads a message, which is all of the lent bytes.
 pub fn read(bytes: &[u8]) -> Answer
     ensures { λ r. ⌜ r ≡ readMessage (now (bytes .entry)) ⌝ }
 {
-    match read_header(bytes) {
-        Header::Command(command) => read_tlvs(bytes, record::empty(command)),
-        Header::Refused { status } => Answer::Refused { status, place: 0 },
+    let verdict = check(bytes);
+    let status = verdict.status;
+    if number(status) == 0 {
+        return Answer::Accepted(fields(bytes));
+    }
+    Answer::Refused {
+        status,
+        place: verdict.place,
     }
 }

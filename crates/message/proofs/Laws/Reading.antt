@@ -8,6 +8,7 @@ use native.Mathlib.Omega.{arith}
 use borrow.Author.Tests.{ltb-true, ltb-false, lt-ltb, le-ltb, eqb-true, eqb-false, eq-eqb, ne-eqb, not-true, not-false}
 use lib.Dec.{ltb, eqb}
 use lib.ListN.{length, getD}
+use Rattle.wire.specs.Status.{numberOf}
 use Rattle.wire.specs.declared.status.Status.{Status}
 use Rattle.wire.specs.declared.status.Status.the-variants as status
 use Rattle.message.specs.declared.record.Message.{Message}
@@ -19,10 +20,11 @@ use Rattle.message.specs.Rules.{roleOf, foreign, needed, lengthOk, known
 use Rattle.message.specs.Record.{fieldOf, withField, emptyOf}
 use Rattle.message.specs.Reading.{sizeIn, versionIn, commandIn, headerOf, typeAt, lengthAt, nextAt, valueAt, tlvAt}
 use Rattle.message.specs.Reading.{Step, hasNeeded, isComplete, lastOf, goOn, tlvsFrom, afterHeader, readMessage}
+use Rattle.message.specs.Checking.{verdictOf, IsAccepted}
 use Rattle.message.specs.Theorems.{Headed, Taken, Reached, Fault, Refusal, Acceptance, RefusedExactly, AcceptedExactly}
 use Rattle.message.specs.Reading as step
 use Rattle.message.specs.Theorems as given
-use Rattle.wire.proofs.Laws.Bool.{by-test, not-both}
+use Rattle.wire.proofs.Laws.Bool.{impossible, by-test, not-both}
 use Rattle.wire.proofs.Laws.Number.{number-small}
 use Rattle.message.proofs.Laws.Rules.{type-small}
 use Rattle.wire.proofs.Laws.Below.{below-all, all-below, one-below, one-fails}
@@ -113,6 +115,30 @@ unfolding tlvsFrom
 tlvs-end zero s at m h = refl
 tlvs-end (suc k) s at m h = simp (le-ltb at (length s) h)
 
+clash : {A : Type 0} {st : Status} {place : ℕ} {m : Message} → answer.Refused st place ≡ answer.Accepted m → A
+clash e = impossible (cc)
+
+-- Where a message is accepted, the TLV at each place is right.
+abbrev Goes : ℕ → List ℕ → ℕ → Message → Type 0
+Goes k s at m =
+    Taken s at m × (j : ℕ) × (length s ≤ nextAt s at + j)
+    × (tlvsFrom j s (nextAt s at) (withField m (typeAt s at) (valueAt s at)) ≡ tlvsFrom k s at m)
+
+goes
+    : (k : ℕ) (s : List ℕ) (at : ℕ) (m m' : Message) → at < length s → length s ≤ at + k → tlvsFrom k s at m ≡ answer.Accepted m'
+    → (x : Step) → tlvAt s at m ≡ x → OfStep s at m x → Goes k s at m
+goes k s at m m' h f e (step.Known n m'') q p =
+    let t = tlvs-known k s at m _ _ h f (tlv-taken s at m (p .0)) in (p .0, t .0, t .3, t .4)
+goes k s at m m' h f e (step.Refused st place) q p = clash (tlvs-refused k s at m st place h f q ∙ e)
+
+pub tlvs-accepted
+    : (k : ℕ) (s : List ℕ) (at : ℕ) (m m' : Message) → at < length s → length s ≤ at + k → tlvsFrom k s at m ≡ answer.Accepted m' → Goes k s at m
+tlvs-accepted k s at m m' h f e = goes k s at m m' h f e (tlvAt s at m) refl (of-step s at m)
+
+pub last-accepted : (n : ℕ) (m m' : Message) → lastOf n m ≡ answer.Accepted m' → answer.Accepted m ≡ lastOf n m
+unfolding lastOf
+last-accepted n m m' = by-test (λ x. x ≡ answer.Accepted m' → answer.Accepted m ≡ x) (isComplete m) _ _ (λ e f. refl) (λ e f. clash f)
+
 -- ---- the whole message
 
 -- what an answer says
@@ -194,9 +220,6 @@ of-header s =
     by-test P (not (knownCommand (commandIn s))) _ _ (λ e. given.command four all one (not-true (knownCommand (commandIn s)) e))
     (λ k. (record { four = four; size = all; version = one; command = not-false (knownCommand (commandIn s)) k }, refl)))))))
 
-pub headed : (s : List ℕ) (c : ℕ) → headerOf s ≡ header.Command c → Headed s × (c ≡ commandIn s)
-headed s c e = subst (OfHeader s) e (of-header s)
-
 -- Size is a number of two bytes
 pub headed-short : (s : List ℕ) → ((k : ℕ) → getD s k 0 < 256) → Headed s → length s ≤ 65535
 headed-short s small h =
@@ -214,7 +237,7 @@ unfolding readMessage
 of-read s = after-header s (headerOf s) (of-header s)
 
 -- a right header leaves the TLVs to be read
-headed-read : (s : List ℕ) → Headed s → readMessage s ≡ tlvsFrom (length s) s 4 (emptyOf (commandIn s))
+pub headed-read : (s : List ℕ) → Headed s → readMessage s ≡ tlvsFrom (length s) s 4 (emptyOf (commandIn s))
 unfolding readMessage headerOf
 headed-read s h =
     let e = h .size in
@@ -262,3 +285,36 @@ refused-exactly s st place = (λ e. subst (OfAnswer s) e (of-read s), refused s 
 pub accepted-exactly : AcceptedExactly
 unfolding AcceptedExactly
 accepted-exactly s m = (λ e. subst (OfAnswer s) e (of-read s), accepted s m)
+
+pub accepted-headed : (s : List ℕ) (m : Message) → readMessage s ≡ answer.Accepted m → Headed s
+accepted-headed s m e = subst (OfAnswer s) e (of-read s) .headed
+
+-- ---- the check
+
+-- no refusal has the number 0
+fault-number : (s : List ℕ) (at : ℕ) (m : Message) (st : Status) → Fault s at m st → numberOf st ≡ 0 → ⊥
+fault-number s at m st (given.truncated h) e = omega arith
+fault-number s at m st (given.unexpected w r) e = omega arith
+fault-number s at m st (given.length-wrong w r l) e = omega arith
+fault-number s at m st (given.repeated w r l f) e = omega arith
+
+refusal-number : (s : List ℕ) (st : Status) (place : ℕ) → Refusal s st place → numberOf st ≡ 0 → ⊥
+refusal-number s st place (given.before-header h) e = omega arith
+refusal-number s st place (given.before-size a b h) e = omega arith
+refusal-number s st place (given.below-header a h) e = omega arith
+refusal-number s st place (given.left-over b h) e = omega arith
+refusal-number s st place (given.version a b h) e = omega arith
+refusal-number s st place (given.command a b v h) e = omega arith
+refusal-number s st place (given.tlv {m = m} h r a f) e = fault-number s place m st f e
+refusal-number s st place (given.missing t h r n g) e = omega arith
+
+is-accepted : (s : List ℕ) (a : Answer) → OfAnswer s a → numberOf (verdictOf a .status) ≡ 0 → IsAccepted a
+is-accepted s (answer.Accepted m) p e = (m, refl)
+is-accepted s (answer.Refused st place) p e = absurd (refusal-number s st place p e)
+
+pub zero-accepted : (s : List ℕ) → numberOf (verdictOf (readMessage s) .status) ≡ 0 → IsAccepted (readMessage s)
+zero-accepted s e = is-accepted s (readMessage s) (of-read s) e
+
+pub other-refused : (a : Answer) → (numberOf (verdictOf a .status) ≡ 0 → ⊥) → answer.Refused (verdictOf a .status) (verdictOf a .place) ≡ a
+other-refused (answer.Accepted m) n = absurd (n refl)
+other-refused (answer.Refused st place) n = refl

@@ -4,16 +4,16 @@ use native.Mathlib.Omega.{arith}
 use denote.Ref.{now}
 use lib.ListN.{length}
 use borrow.Author.Tests.{eq-eqb, ne-eqb, lt-ltb, le-ltb}
-use Rattle.message.specs.Reading.{tlvAt}
+use Rattle.message.specs.Checking.{tlvOf}
 use borrow.Author.Needs.{needs}
-use Rattle.message.proofs.reader.read_tlv.Statement.{statement}
-use Rattle.message.proofs.reader.read_tlv.Tie as tie
+use Rattle.message.proofs.reader.check_tlv.Statement.{statement}
+use Rattle.message.proofs.reader.check_tlv.Tie as tie
 
 sub-left : tie.Need-sub-left
 sub-left c = search needs
 
 returns : tie.Need-returns
-unfolding tlvAt
+unfolding tlvOf
 returns c = let a = c .before .before .args in simp (lt-ltb (length (now (a .bytes))) (a .at + 3) (omega arith))
 
 shared-slice-read-kind : tie.Need-shared-slice-read-kind
@@ -29,7 +29,7 @@ cast-len : tie.Need-cast-len
 cast-len c = search needs
 
 returns-2 : tie.Need-returns-2
-unfolding tlvAt
+unfolding tlvOf
 returns-2 c =
     let a = c .before .before .before .before .before .args in
     let n = length (now (a .bytes)) in
@@ -40,7 +40,7 @@ role-requires : tie.Need-role-requires
 role-requires c κs = search needs
 
 returns-3 : tie.Need-returns-3
-unfolding tlvAt
+unfolding tlvOf
 returns-3 c =
     let u16-at = c .before .before .before .u16-at in
     let a = c .before .before .before .before .before .before .before .args in
@@ -58,7 +58,7 @@ length-ok-requires : tie.Need-length-ok-requires
 length-ok-requires c κs = search needs
 
 returns-4 : tie.Need-returns-4
-unfolding tlvAt
+unfolding tlvOf
 returns-4 c =
     let u16-at = c .before .before .before .before .before .u16-at in
     let role = c .before .before .before .role in
@@ -76,18 +76,13 @@ returns-4 c =
       c .if4 .taken,
     )
 
-field-of-requires : tie.Need-field-of-requires
-field-of-requires c κs = search needs
-
 returns-5 : tie.Need-returns-5
-unfolding tlvAt
+unfolding tlvOf
 returns-5 c =
-    let u16-at = c .before .before .before .before .before .before .before .u16-at in
-    let role = c .before .before .before .before .before .role in
-    let if3 = c .before .before .before .before .if3 in
-    let length-ok = c .before .before .before .length-ok in
-    let if4 = c .before .before .if4 in
-    let a = c .before .before .before .before .before .before .before .before .before .before .before .args in
+    let u16-at = c .before .before .before .before .before .u16-at in
+    let role = c .before .before .before .role in
+    let if3 = c .before .before .if3 in
+    let a = c .before .before .before .before .before .before .before .before .before .args in
     let n = length (now (a .bytes)) in
     let r = u16-at .result in
     simp (
@@ -96,37 +91,12 @@ returns-5 c =
       le-ltb n (a .at + 3 + r) (omega arith),
       ← role .ensures,
       ne-eqb _ _ (if3 .left),
-      ← length-ok .ensures,
-      if4 .left,
-      ← c .before .field-of .ensures,
-      c .if5 .taken,
+      ← c .before .length-ok .ensures,
+      c .if4 .left,
     )
 
-returns-6 : tie.Need-returns-6
-unfolding tlvAt
-returns-6 c =
-    let u16-at = c .before .before .before .before .before .before .before .u16-at in
-    let role = c .before .before .before .before .before .role in
-    let if3 = c .before .before .before .before .if3 in
-    let length-ok = c .before .before .before .length-ok in
-    let if4 = c .before .before .if4 in
-    let a = c .before .before .before .before .before .before .before .before .before .before .before .args in
-    let n = length (now (a .bytes)) in
-    let r = u16-at .result in
-    simp (
-      le-ltb n (a .at + 3) (omega arith),
-      ← u16-at .ensures,
-      le-ltb n (a .at + 3 + r) (omega arith),
-      ← role .ensures,
-      ne-eqb _ _ (if3 .left),
-      ← length-ok .ensures,
-      if4 .left,
-      ← c .before .field-of .ensures,
-      c .if5 .left,
-    )
-
-pub read-tlv-spec : {M : Type 1} → statement M
-read-tlv-spec =
+pub check-tlv-spec : {M : Type 1} → statement M
+check-tlv-spec =
     tie.close
     (tie.spec
     sub-left
@@ -140,6 +110,4 @@ read-tlv-spec =
     returns-3
     length-ok-requires
     returns-4
-    field-of-requires
-    returns-5
-    returns-6)
+    returns-5)
