@@ -12,7 +12,7 @@ use Rattle.message.specs.Theorems.{Bytes}
 use Rattle.records.specs.Layout.{flag, isSet, laid}
 use Rattle.records.specs.Little.{number, bytes}
 
--- a field: whether it is there, the place and the length of its value, both modulo 2^32
+-- a field: whether it is there, the place and the length of its value
 unfoldable pub fieldBytes : Field → List ℕ
 fieldBytes f = bytes 1 (flag (f .present)) ++ bytes 4 (f .at) ++ bytes 4 (f .len)
 

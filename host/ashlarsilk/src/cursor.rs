@@ -31,17 +31,15 @@ impl Pointer {
     /// The number of bytes of the layout.
     pub const LENGTH: usize = 7;
 
-    /// The pointer whose position is not known.
+    /// The pointer whose position is not known: every byte is 0, as `ashlarsilk_pointer_fresh` writes
+    /// them.
     ///
     /// ```
     /// use ashlarsilk::cursor::Pointer;
     /// assert_eq!(Pointer::fresh().position(), None);
     /// ```
-    #[inline]
-    pub fn fresh() -> Self {
-        let mut record = [0; Self::LENGTH];
-        sys::pointer_fresh(&mut record);
-        Pointer { record }
+    pub const fn fresh() -> Self {
+        Pointer { record: [0; Self::LENGTH] }
     }
 
     /// The pointer in these bytes, whatever they are.
@@ -141,17 +139,15 @@ impl Picture {
     /// The number of bytes of the layout.
     pub const LENGTH: usize = 15;
 
-    /// The record without an opened picture.
+    /// The record without an opened picture: every byte is 0, as `ashlarsilk_picture_fresh` writes
+    /// them.
     ///
     /// ```
     /// use ashlarsilk::cursor::Picture;
     /// assert_eq!(Picture::fresh().opened(), None);
     /// ```
-    #[inline]
-    pub fn fresh() -> Self {
-        let mut record = [0; Self::LENGTH];
-        sys::picture_fresh(&mut record);
-        Picture { record }
+    pub const fn fresh() -> Self {
+        Picture { record: [0; Self::LENGTH] }
     }
 
     /// The record in these bytes, whatever they are.

@@ -57,9 +57,9 @@ impl Limits {
         let Limits::Supported { xor, width, height, port } = self else {
             return [0; Self::LENGTH];
         };
-        let ([w0, w1], [h0, h1]) = (width.to_le_bytes(), height.to_le_bytes());
-        let [p0, p1] = port.to_le_bytes();
-        [1, xor as u8, w0, w1, h0, h1, p0, p1]
+        // As one number, so that it is stored at once: the library then reads it without a stall.
+        let numbers = (port as u64) << 48 | (height as u64) << 32 | (width as u64) << 16;
+        (numbers | (xor as u64) << 8 | 1).to_le_bytes()
     }
 
     /// Reads a value, which is all of `text`. Refusal: 16.

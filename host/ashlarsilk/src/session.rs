@@ -137,7 +137,8 @@ impl Session {
     /// The number of bytes of the layout.
     pub const LENGTH: usize = 19;
 
-    /// The session of a new connection: Waiting, options 0, no Source ID kept.
+    /// The session of a new connection: Waiting, options 0, no Source ID kept. Every byte is 0, as
+    /// `ashlarsilk_session_fresh` writes them.
     ///
     /// ```
     /// use ashlarsilk::{Session, State};
@@ -146,11 +147,8 @@ impl Session {
     /// assert_eq!(session.state(), State::Waiting);
     /// assert_eq!(session.source_id(), None);
     /// ```
-    #[inline]
-    pub fn fresh() -> Self {
-        let mut record = [0; Self::LENGTH];
-        sys::session_fresh(&mut record);
-        Session { record }
+    pub const fn fresh() -> Self {
+        Session { record: [0; Self::LENGTH] }
     }
 
     /// The session in these bytes, whatever they are.

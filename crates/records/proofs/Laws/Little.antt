@@ -3,7 +3,6 @@ use Prim.Native.Nat.{ℕ, zero, suc, _+_, _-_, _*_, _/_, _%_, _^_, _≤_, _<_}
 use mathlib.Core.Path.{_≡_, refl, sym, ap, _∙_}
 use mathlib.Core.List.{List, [], _∷_}
 use native.Mathlib.Omega.{arith}
-use lib.Arith.{mod-mul}
 use lib.ListN.{length, getD, set}
 use lib.Seq.{drop-cons}
 use borrow.Author.Tests.{le-leb}
@@ -114,19 +113,3 @@ writes-back (suc n) at s h small =
     let first : (b + 256 * v) % 256 ≡ b = omega (arith, small at) in
     let i : at + 1 ≡ suc at = omega arith in
     rw (rest, first, writes-back n (at + 1) s (omega arith) small, i, drop-cons s at 0 (omega arith))
-
-power-positive : (n : ℕ) → 0 < 256 ^ n
-power-positive zero = omega arith
-power-positive (suc n) = omega (arith, power-positive n)
-
--- n bytes hold a number modulo 256 to the n
-pub bytes-modulo : (n v : ℕ) → bytes n (v % 256 ^ n) ≡ bytes n v
-unfolding bytes
-bytes-modulo zero v = refl
-bytes-modulo (suc n) v =
-    let p = power-positive n in
-    let e : 256 ^ suc n ≡ 256 ^ n * 256 = omega arith in
-    let m : v % (256 ^ n * 256) ≡ (v / 256 % 256 ^ n) * 256 + v % 256 = mod-mul v {m = 256 ^ n} {c = 256} p (omega arith) in
-    let high : ((v / 256 % 256 ^ n) * 256 + v % 256) / 256 ≡ v / 256 % 256 ^ n = omega arith in
-    let low : ((v / 256 % 256 ^ n) * 256 + v % 256) % 256 ≡ v % 256 = omega arith in
-    rw (e, m, high, low, bytes-modulo n (v / 256))
