@@ -11,11 +11,11 @@ use Rattle.wire.specs.Status.{numberOf}
 use Rattle.scan.specs.Bytes.{copied}
 use Rattle.message.specs.declared.reader.Answer.{Answer as ReaderAnswer}
 use Rattle.message.specs.declared.reader.Answer.the-variants as reader
-use Rattle.message.specs.declared.writer.Written.{Written as WriterAnswer}
-use Rattle.message.specs.declared.writer.Written.the-variants as writer
+use Rattle.message_writer.specs.declared.Written.{Written as WriterAnswer}
+use Rattle.message_writer.specs.declared.Written.the-variants as writer
 use Rattle.message.specs.declared.accessors.SourceId.{SourceId}
 use Rattle.message.specs.Reading.{readMessage}
-use Rattle.message.specs.Writing.{writeAnswer, output}
+use Rattle.message_writer.specs.Writing.{writeAnswer, output}
 use Rattle.message.specs.Accessors.{portOf, optionsOf, sourceOf}
 use Rattle.records.specs.Layout.{laid}
 use Rattle.records.specs.MessageRecord.{messageBytes, messageIn}

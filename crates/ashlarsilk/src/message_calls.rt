@@ -8,7 +8,6 @@ use crate::answers::Written;
 use crate::answers::Yes;
 use message::accessors;
 use message::reader;
-use message::writer;
 use records::message_record;
 use scan::bytes;
 use wire::status;
@@ -55,9 +54,9 @@ pub extern "C" fn ashlarsilk_message_write(bytes: &[u8], record: &[u8], out: &mu
             size: 0,
         };
     }
-    match writer::write(bytes, message_record::read(record), out) {
-        writer::Written::Wrote(size) => Written { status: 0, size },
-        writer::Written::Refused { status, place } => Written {
+    match message_writer::write(bytes, message_record::read(record), out) {
+        message_writer::Written::Wrote(size) => Written { status: 0, size },
+        message_writer::Written::Refused { status, place } => Written {
             status: status::number(status),
             size: 0,
         },

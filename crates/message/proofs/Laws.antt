@@ -1,10 +1,6 @@
 pub mod Rules
 pub mod Record
+pub mod Size
 pub mod Reading
 pub mod Checking
-pub mod Writing
-pub mod WithField
 pub mod WellFormed
-pub mod ReadsBack
-pub mod WritesBack
-pub mod Written

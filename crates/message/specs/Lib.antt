@@ -3,6 +3,5 @@ pub mod Record
 pub mod Reading
 pub mod Checking
 pub mod Accessors
-pub mod Writing
 pub mod Examples
 pub mod Theorems

@@ -1,5 +1,5 @@
 -- The record of a message. Assumes nothing.
-use Prim.Native.Nat.{ℕ}
+use Prim.Native.Nat.{ℕ, zero, suc, _+_}
 use mathlib.Core.List.{List}
 use mathlib.Core.Bool.{false, cond}
 use lib.ListN.{take, drop}
@@ -53,3 +53,12 @@ emptyOf c =
       «pin_challenge» = absent;
       «pin_reason» = absent;
     }
+
+-- the number of bytes of a field's TLV, if it is there: Type, Length and the value
+unfoldable pub tlvSize : Field → ℕ
+tlvSize f = cond (f .present) (3 + f .len) 0
+
+-- the number of bytes of the header and the TLVs of the types below t
+unfoldable pub sizeTo : Message → ℕ → ℕ
+sizeTo m zero = 4
+sizeTo m (suc t) = sizeTo m t + tlvSize (fieldOf m t)

@@ -1,6 +1,5 @@
-// Connection messages (MS-MICE 3.0, sections 2.2 to 2.2.7): read, asked for their values, and written.
+// Connection messages (MS-MICE 3.0, sections 2.2 to 2.2.7): read, and asked for their values.
 pub mod accessors;
 pub mod reader;
 pub mod record;
-mod rules;
-pub mod writer;
+pub mod rules;

@@ -6,8 +6,8 @@ use message::accessors;
 use message::reader;
 use message::reader::Answer;
 use message::record::Message;
-use message::writer;
-use message::writer::Written;
+use message_writer::Written;
+use message_writer::write;
 use wire::status;
 
 fn source(bytes: &[u8], message: Message) {
@@ -35,7 +35,7 @@ fn begins(out: &[u8], n: usize, bytes: &[u8]) -> bool {
 // Whether writing the record gives the bytes back.
 fn writes_back(bytes: &[u8], message: Message) -> bool {
     let mut out = [0u8; 128];
-    match writer::write(bytes, message, &mut out) {
+    match write(bytes, message, &mut out) {
         Written::Wrote(n) => begins(&out, n, bytes),
         Written::Refused {
             status: _,

@@ -4,3 +4,4 @@ pub mod Number
 pub mod Sequence
 pub mod Signed
 pub mod Splice
+pub mod Written

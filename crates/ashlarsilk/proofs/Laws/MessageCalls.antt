@@ -9,10 +9,10 @@ use Rattle.wire.specs.declared.status.Status.the-variants as status
 use Rattle.message.specs.declared.record.Message.{Message}
 use Rattle.message.specs.declared.reader.Answer.{Answer}
 use Rattle.message.specs.declared.reader.Answer.the-variants as reader
-use Rattle.message.specs.declared.writer.Written.{Written}
+use Rattle.message_writer.specs.declared.Written.{Written}
 use Rattle.message.specs.declared.accessors.SourceId.{SourceId}
 use Rattle.message.specs.Reading.{readMessage}
-use Rattle.message.specs.Writing.{writeAnswer, output}
+use Rattle.message_writer.specs.Writing.{writeAnswer, output}
 use Rattle.message.specs.Accessors.{sourceOf}
 use Rattle.records.specs.MessageRecord.{messageBytes, messageIn}
 use Rattle.records.proofs.Laws.Layout.{laid-short}

@@ -10,17 +10,15 @@ use lib.ListN.{length}
 use Rattle.message.specs.declared.record.Field.{Field}
 use Rattle.message.specs.declared.record.Message.{Message}
 use Rattle.message.specs.Rules.{roleOf, foreign, knownCommand}
-use Rattle.message.specs.Record.{fieldOf, withField, emptyOf}
+use Rattle.message.specs.Record.{fieldOf, withField, emptyOf, sizeTo}
 use Rattle.message.specs.Reading.{commandIn, typeAt, nextAt, valueAt}
-use Rattle.message.specs.Writing.{sizeTo}
 use Rattle.message.specs.Theorems.{Taken, Reached, Placed, Before, AcceptedExactly, AcceptedWellFormed}
 use Rattle.message.specs.Theorems as given
 use Rattle.wire.proofs.Laws.Bool.{not-both}
 use Rattle.message.proofs.Laws.Rules.{type-small, type-not-1}
 use Rattle.message.proofs.Laws.Record.{field-with, field-empty, command-with, command-empty}
 use Rattle.message.proofs.Laws.Reading.{accepted-exactly}
-use Rattle.message.proofs.Laws.Writing.{size-least}
-use Rattle.message.proofs.Laws.WithField.{size-empty, size-with}
+use Rattle.message.proofs.Laws.Size.{size-least, size-empty, size-with}
 
 -- m is the record of the TLVs up to `at`, which fill the bytes up to there
 pub record Sound (s : List ℕ) (at : ℕ) (m : Message) : Type 0 where

@@ -1,0 +1,121 @@
+-- Type, Length and the value are laid one after the other. Assumes nothing.
+use Prim.Native.Nat.{ℕ, _+_, _-_, _≤_, _<_}
+use mathlib.Core.Path.{_≡_, refl, ap, _∙_}
+use mathlib.Core.List.{List, _++_}
+use native.Mathlib.Omega.{arith}
+use borrow.Rule.Slice.PartMut.{putMid}
+use denote.Ref.{now}
+use lib.ListN.{length, take, drop, length-append, length-drop}
+use lib.Seq.{length-take-le}
+use Rattle.wire.specs.Number.{bytes, written}
+use Rattle.wire.specs.Splice.{splice}
+use Rattle.wire.proofs.Laws.Number.{length-bytes}
+use Rattle.wire.proofs.Laws.Splice.{part-back}
+use Rattle.message.specs.declared.record.Field.{Field}
+use Rattle.message_writer.specs.Writing.{tlvBytes}
+use Rattle.wire.proofs.Laws.Written.{first-number, next-number, next-bytes}
+use Rattle.message_writer.proofs.Laws.Writing.{one-byte}
+use borrow.Author.Needs.{needs}
+use Rattle.message_writer.proofs.put_tlv.Statement.{statement}
+use Rattle.message_writer.proofs.put_tlv.Tie as tie
+
+laid
+    : (s : List ℕ) (kind : ℕ) (f : Field) (at n : ℕ) (xs ys zs vs : List ℕ) → kind < 256 → f .at + f .len ≤ length s → at + 3 + f .len ≤ length xs
+    → ys ≡ written 1 kind at xs → zs ≡ written 2 (f .len) (at + 1) ys → vs ≡ take (f .len) (drop (f .at) s) → n ≡ f .len
+    → putMid (at + 3) n zs vs ≡ splice at (tlvBytes s kind f) xs
+laid s kind f at n xs ys zs vs small inside h p q v e =
+    let one = length-bytes 1 kind in
+    let room : f .len ≤ length (drop (f .at) s) = simp length-drop (omega arith) in
+    let long : length vs ≡ f .len = ap length v ∙ length-take-le (f .len) (drop (f .at) s) room in
+    let three : length (bytes 1 kind ++ bytes 2 (f .len)) ≡ 3 = simp (length-append, length-bytes) in
+    part-back (at + 3) n zs vs (omega arith)
+    ∙ next-bytes at (at + 3) (bytes 1 kind ++ bytes 2 (f .len)) vs xs zs (splice (at + 3) vs zs) (omega arith) (omega arith)
+    (next-number 2 (f .len) at (at + 1) (bytes 1 kind) xs ys zs (omega arith) (omega arith) (first-number 1 kind at xs ys (omega arith) p) q) refl
+    ∙ rw (v, one-byte kind small)
+
+cast-from : tie.Need-cast-from
+cast-from c = search needs
+
+cast-len : tie.Need-cast-len
+cast-len c = search needs
+
+add-to : tie.Need-add-to
+add-to c = search needs
+
+add-start : tie.Need-add-start
+add-start c = search needs
+
+add-end : tie.Need-add-end
+add-end c = search needs
+
+put-u8-requires : tie.Need-put-u8-requires
+put-u8-requires c κs = search needs
+
+add-put-u16 : tie.Need-add-put-u16
+add-put-u16 c = search needs
+
+cast-put-u16 : tie.Need-cast-put-u16
+cast-put-u16 c = search needs
+
+put-u16-requires : tie.Need-put-u16-requires
+put-u16-requires c κs = search needs
+
+sub-copy : tie.Need-sub-copy
+sub-copy c = search needs
+
+part-copy-start : tie.Need-part-copy-start
+part-copy-start c = search needs
+
+part-copy-end : tie.Need-part-copy-end
+part-copy-end c = search needs
+
+sub-copy-2 : tie.Need-sub-copy-2
+sub-copy-2 c = search needs
+
+part-copy-start-2 : tie.Need-part-copy-start-2
+part-copy-start-2 c = search needs
+
+part-copy-end-2 : tie.Need-part-copy-end-2
+part-copy-end-2 c = search needs
+
+copy-requires : tie.Need-copy-requires
+copy-requires c κs = search needs
+
+same-length : tie.Need-same-length
+same-length c = search needs
+
+returns : tie.Need-returns
+returns c =
+    let put-u8 = c .before .before .before .before .before .before .before .before .before .before .before .put-u8 in
+    let put-u16 = c .before .before .before .before .before .before .before .put-u16 in
+    let copy = c .before .before .copy in
+    let a = c .before .before .before .before .before .before .before .before .before .before .before .before .before .before .before .before .before .args in
+    let f = a .value in
+    let e : f .at + f .len - f .at ≡ f .len = omega arith in (
+      refl,
+      laid (now (a .bytes)) (a .kind) f (a .at) (a .at + 3 + f .len - (a .at + 3)) (now (a .out)) _ _ _ (omega arith) (omega arith)
+          (omega arith) (put-u8 .ensures .1) (put-u16 .ensures .1) (rw e at (copy .ensures)) (omega arith),
+    )
+
+pub put-tlv-spec : {M : Type 1} → statement M
+put-tlv-spec =
+    tie.close
+    (tie.spec
+    cast-from
+    cast-len
+    add-to
+    add-start
+    add-end
+    put-u8-requires
+    add-put-u16
+    cast-put-u16
+    put-u16-requires
+    sub-copy
+    part-copy-start
+    part-copy-end
+    sub-copy-2
+    part-copy-start-2
+    part-copy-end-2
+    copy-requires
+    same-length
+    returns)
