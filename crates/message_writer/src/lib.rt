@@ -11,6 +11,7 @@ use message::record;
 use message::record::Field;
 use message::record::Message;
 use message::rules;
+use scan::bytes;
 use wire::number::put_u8;
 use wire::number::put_u16;
 use wire::status::Status;
@@ -75,18 +76,6 @@ fn size_of(n: usize, message: Message) -> usize
     size
 }
 
-// Copies all of `from` over `out`, which is as long.
-fn copy(out: &mut [u8], from: &[u8])
-    requires { ⌜ length (now out) ≡ length (now from) ⌝ }
-    ensures { λ _. ⌜ now (out .exit) ≡ now (from .entry) ⌝ }
-{
-    let mut k = 0;
-    while k < from.len() {
-        out[k] = from[k];
-        k += 1;
-    }
-}
-
 // Writes a TLV at `at`, and answers the place after it.
 fn put_tlv(bytes: &[u8], kind: u8, value: Field, out: &mut [u8], at: usize) -> usize
     requires { ⌜ (value .at + value .len ≤ length (now bytes)) × (value .len ≤ 65535) × (at + 3 + value .len ≤ length (now out)) ⌝ }
@@ -99,7 +88,7 @@ fn put_tlv(bytes: &[u8], kind: u8, value: Field, out: &mut [u8], at: usize) -> u
     let end = start + len;
     put_u8(out, at, kind);
     put_u16(out, at + 1, len as u16);
-    copy(&mut out[start..end], &bytes[from..to]);
+    bytes::copy(&mut out[start..end], &bytes[from..to]);
     end
 }
 

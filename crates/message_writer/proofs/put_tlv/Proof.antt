@@ -15,6 +15,7 @@ use Rattle.message.specs.declared.record.Field.{Field}
 use Rattle.message_writer.specs.Writing.{tlvBytes}
 use Rattle.wire.proofs.Laws.Written.{first-number, next-number, next-bytes}
 use Rattle.message_writer.proofs.Laws.Writing.{one-byte}
+use Rattle.scan.proofs.Laws.Bytes.{copied-all}
 use borrow.Author.Needs.{needs}
 use Rattle.message_writer.proofs.put_tlv.Statement.{statement}
 use Rattle.message_writer.proofs.put_tlv.Tie as tie
@@ -91,10 +92,13 @@ returns c =
     let copy = c .before .before .copy in
     let a = c .before .before .before .before .before .before .before .before .before .before .before .before .before .before .before .before .before .args in
     let f = a .value in
-    let e : f .at + f .len - f .at ≡ f .len = omega arith in (
+    let e : f .at + f .len - f .at ≡ f .len = omega arith in
+    let d = take (f .at + f .len - f .at) (drop (f .at) (now (a .bytes))) in
+    let p = take (a .at + 3 + f .len - (a .at + 3)) (drop (a .at + 3) (put-u16 .last .0)) in
+    let l : length p ≡ length d = search needs in (
       refl,
       laid (now (a .bytes)) (a .kind) f (a .at) (a .at + 3 + f .len - (a .at + 3)) (now (a .out)) _ _ _ (omega arith) (omega arith)
-          (omega arith) (put-u8 .ensures .1) (put-u16 .ensures .1) (rw e at (copy .ensures)) (omega arith),
+          (omega arith) (put-u8 .ensures .1) (put-u16 .ensures .1) (rw e at (copy .ensures ∙ copied-all d p l)) (omega arith),
     )
 
 pub put-tlv-spec : {M : Type 1} → statement M
