@@ -10,7 +10,7 @@ same-length : tie.Need-same-length
 same-length c = search needs
 
 returns : tie.Need-returns
-returns c = c .before .before .write .ensures
+returns c = let w = c .before .before .write in (w .ensures .0, w .ensures .1)
 
 pub put-u16-spec : {M : Type 1} → statement M
 put-u16-spec = tie.close (tie.spec write-requires same-length returns)

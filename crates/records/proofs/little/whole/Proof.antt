@@ -33,7 +33,8 @@ mul-value : tie.Need-mul-value Inv-loop μ-loop
 mul-value c =
     let a = c .before .before .before .args in
     let l = c .before .before .loop in
-    omega (arith, one-fits (now (a .s)) (a .at) (a .n) (l .k) (l .value) 0 (l .inv) (omega arith) (omega arith) (omega arith))
+    let small = c .shared-slice-known .given (a .at + (l .k - 1)) in
+    omega (arith, small, one-fits (now (a .s)) (a .at) (a .n) (l .k) (l .value) 0 (l .inv) (omega arith) (omega arith) (omega arith))
 
 add-value : tie.Need-add-value Inv-loop μ-loop
 add-value c =
@@ -41,7 +42,7 @@ add-value c =
     let l = c .before .before .loop in
     let byte = getD (now (a .s)) (a .at + (l .k - 1)) 0 in
     let small = c .shared-slice-known .given (a .at + (l .k - 1)) in
-    omega (arith, one-fits (now (a .s)) (a .at) (a .n) (l .k) (l .value) byte (l .inv) (omega arith) (omega arith) (omega (arith, small)))
+    omega (arith, small, one-fits (now (a .s)) (a .at) (a .n) (l .k) (l .value) byte (l .inv) (omega arith) (omega arith) (omega (arith, small)))
 
 loop-less : tie.Need-loop-less Inv-loop μ-loop
 loop-less c = omega arith

@@ -1,6 +1,9 @@
 -- The lent part comes back with the Source ID in it. Assumes nothing.
-use mathlib.Core.Path.{_≡_, sym, _∙_}
+use Prim.Native.Nat.{ℕ}
+use mathlib.Core.Path.{_≡_, sym, ap, _∙_}
+use mathlib.Core.List.{List}
 use native.Mathlib.Omega.{arith}
+use borrow.Rule.Slice.PartMut.{putMid}
 use lib.ListN.{length, drop, take, length-drop}
 use lib.Seq.{length-take-le}
 use denote.Ref.{now}
@@ -32,7 +35,8 @@ returns c =
     let part = take 16 (drop 3 (now (a .«record»))) in
     let n : length (now (a .id)) ≡ 16 = search needs in
     let l : length part ≡ 16 = length-take-le 16 (drop 3 (now (a .«record»))) (rw (length-drop 3 (now (a .«record»))) (omega arith)) in
-    rw (k .copy .ensures, copied-all (now (a .id)) part (l ∙ sym n)) (part-back 3 16 (now (a .«record»)) (now (a .id)) n)
+    ap (λ (ds : List ℕ). putMid 3 16 (now (a .«record»)) ds) (k .copy .ensures ∙ copied-all (now (a .id)) part (l ∙ sym n))
+    ∙ part-back 3 16 (now (a .«record»)) (now (a .id)) n
 
 pub put-id-spec : {M : Type 1} → statement M
 put-id-spec =
