@@ -1,4 +1,0 @@
-pub mod CursorCalls
-pub mod LimitsCalls
-pub mod MessageCalls
-pub mod SessionCalls

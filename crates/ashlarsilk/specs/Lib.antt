@@ -1,6 +1,0 @@
-pub mod Answers
-pub mod CursorCalls
-pub mod Fresh
-pub mod LimitsCalls
-pub mod MessageCalls
-pub mod SessionCalls

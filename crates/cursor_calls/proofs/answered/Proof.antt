@@ -1,0 +1,32 @@
+-- An arm an answer. Assumes nothing.
+use mathlib.Core.Path.{sym, ap, _∙_}
+use Rattle.cursor_calls.specs.CursorCalls.{yesOrNo}
+use borrow.Author.Needs.{needs}
+use Rattle.cursor_calls.proofs.answered.Statement.{statement}
+use Rattle.cursor_calls.proofs.answered.Tie as tie
+
+enum-told : tie.Need-enum-told
+enum-told c = search needs
+
+enum-told-2 : tie.Need-enum-told-2
+enum-told-2 c = search needs
+
+enum-known-answer : tie.Need-enum-known-answer
+enum-known-answer c = search needs
+
+number-requires : tie.Need-number-requires
+number-requires c κs = search needs
+
+returns : tie.Need-returns
+returns c = sym (ap yesOrNo (c .enum-told .given .1))
+
+returns-2 : tie.Need-returns-2
+returns-2 c = sym (ap yesOrNo (c .enum-told2 .given .1))
+
+returns-3 : tie.Need-returns-3
+returns-3 c = rw (c .number .ensures) (sym (ap yesOrNo (c .before .before .answer .given .1)))
+
+pub answered-spec : {M : Type 1} → statement M
+answered-spec =
+    tie.close
+    (tie.spec enum-told enum-told-2 enum-known-answer number-requires returns returns-2 returns-3)

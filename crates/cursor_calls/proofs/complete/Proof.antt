@@ -1,0 +1,41 @@
+-- The record is too short, or the question is asked. Assumes nothing.
+use mathlib.Core.Path.{sym, _∙_}
+use native.Mathlib.Omega.{arith}
+use borrow.Author.Tests.{le-leb, lt-leb}
+use lib.ListN.{length}
+use denote.Ref.{now}
+use Rattle.cursor_calls.specs.CursorCalls.{cursorComplete}
+use borrow.Author.Needs.{needs}
+use Rattle.cursor_calls.proofs.complete.Statement.{statement}
+use Rattle.cursor_calls.proofs.complete.Tie as tie
+
+answered-requires : tie.Need-answered-requires
+answered-requires c κs = search needs
+
+returns : tie.Need-returns
+unfolding cursorComplete
+returns c =
+    let a = c .before .before .before .before .before .args in
+    c .answered .ensures ∙ simp (lt-leb 15 (length (now (a .picture))) (c .before .if1 .taken))
+
+read-requires : tie.Need-read-requires
+read-requires c κs = search needs
+
+complete-requires : tie.Need-complete-requires
+complete-requires c κs = search needs
+
+answered-requires-2 : tie.Need-answered-requires-2
+answered-requires-2 c κs = search needs
+
+returns-2 : tie.Need-returns-2
+unfolding cursorComplete
+returns-2 c =
+    let k = c .before in
+    let r = k .before in
+    let a = r .before .before .before .before .before .args in
+    c .answered2 .ensures ∙ rw (k .complete .ensures, r .read .ensures) (simp (le-leb 15 (length (now (a .picture))) (omega arith)))
+
+pub complete-spec : {M : Type 1} → statement M
+complete-spec =
+    tie.close
+    (tie.spec answered-requires returns read-requires complete-requires answered-requires-2 returns-2)

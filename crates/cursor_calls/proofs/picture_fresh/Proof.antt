@@ -1,0 +1,29 @@
+-- The fresh record is laid, and the length stays. Assumes nothing.
+use mathlib.Core.Path.{_∙_}
+use denote.Ref.{now}
+use Rattle.records.proofs.Laws.Layout.{length-laid}
+use borrow.Author.Needs.{needs}
+use Rattle.cursor_calls.proofs.picture_fresh.Statement.{statement}
+use Rattle.cursor_calls.proofs.picture_fresh.Tie as tie
+
+fresh-requires : tie.Need-fresh-requires
+fresh-requires c κs = search needs
+
+write-requires : tie.Need-write-requires
+write-requires c κs = search needs
+
+fresh-answer-requires : tie.Need-fresh-answer-requires
+fresh-answer-requires c κs = search needs
+
+same-length : tie.Need-same-length
+same-length c = search needs
+
+returns : tie.Need-returns
+returns c =
+    let w = c .before .before .before in
+    let xs = now (w .before .before .before .before .args .picture) in
+    (c .fresh-answer .ensures ∙ rw (w .write .ensures, length-laid _ xs), w .write .ensures ∙ rw (w .before .fresh .ensures))
+
+pub picture-fresh-spec : {M : Type 1} → statement M
+picture-fresh-spec =
+    tie.close (tie.spec fresh-requires write-requires fresh-answer-requires same-length returns)

@@ -1,0 +1,100 @@
+-- The calls of the cursor stream: what each answers, and what every lent byte then is. Assumes nothing.
+use Prim.Native.Nat.{ℕ}
+use mathlib.Core.Path.{_≡_}
+use mathlib.Core.Bool.{Bool, true, false, cond, _&&_}
+use mathlib.Core.List.{List}
+use lib.Dec.{leb}
+use lib.ListN.{length}
+use Rattle.wire.specs.declared.status.Status.the-variants as status
+use Rattle.wire.specs.Status.{numberOf}
+use Rattle.cursor.specs.declared.pointer.PointerAnswer.{PointerAnswer}
+use Rattle.cursor.specs.declared.pointer.PointerAnswer.the-variants as position
+use Rattle.cursor.specs.declared.storing.StoreAnswer.{StoreAnswer}
+use Rattle.cursor.specs.declared.storing.StoreAnswer.the-variants as store
+use Rattle.cursor.specs.declared.completeness.CompleteAnswer.{CompleteAnswer}
+use Rattle.cursor.specs.declared.completeness.CompleteAnswer.the-variants as complete
+use Rattle.cursor.specs.Pointer.{positioned}
+use Rattle.cursor.specs.Storing as storing
+use Rattle.cursor.specs.Storing.{stored}
+use Rattle.cursor.specs.Completeness.{completeness}
+use Rattle.records.specs.Layout.{laid}
+use Rattle.records.specs.PointerRecord.{pointerBytes, pointerOf}
+use Rattle.records.specs.PictureRecord.{pictureBytes, pictureOf}
+use Rattle.answers.specs.declared.Answer.{Answer}
+use Rattle.answers.specs.declared.Yes.{Yes}
+use Rattle.answers.specs.Answers.{accepted, refused, short}
+
+-- The call for positions.
+
+-- an answer, with what the lent pointer then holds
+pub record Positioned : Type 0 where
+  pub answer : Answer
+  pub pointer : List ℕ
+
+abbrev pub afterPosition : Answer → List ℕ → Positioned
+afterPosition r ps = record { answer = r; pointer = ps }
+
+-- the pointer as the packet sets it goes into the record ps; a refusal changes nothing
+abbrev pub positionLeft : PointerAnswer → List ℕ → Positioned
+positionLeft (position.Accepted p) ps = afterPosition accepted (laid (pointerBytes p) ps)
+positionLeft (position.Refused s place) ps = afterPosition (refused s place) ps
+
+unfoldable pub cursorPosition : List ℕ → List ℕ → Positioned
+cursorPosition ps packet = cond (leb 7 (length ps)) (positionLeft (positioned (pointerOf ps) packet) ps) (afterPosition short ps)
+
+-- The call for starts and continuations.
+
+-- the pointer's record has its 7 bytes, and the picture's its 15
+unfoldable pub recordsWhole : ℕ → ℕ → Bool
+recordsWhole pointer picture = leb 7 pointer && leb 15 picture
+
+-- an answer, with what the four lent slices then hold
+pub record Stored : Type 0 where
+  pub answer : Answer
+  pub pointer : List ℕ
+  pub picture : List ℕ
+  pub image : List ℕ
+  pub marks : List ℕ
+
+abbrev pub afterStore : Answer → List ℕ → List ℕ → List ℕ → List ℕ → Stored
+afterStore r ps qs image marks = record { answer = r; pointer = ps; picture = qs; image = image; marks = marks }
+
+-- the records as the fragment leaves them go into the records ps and qs; a refusal changes neither
+abbrev pub storeLeft : StoreAnswer → List ℕ → List ℕ → List ℕ → List ℕ → Stored
+storeLeft (store.Accepted q p) ps qs image marks = afterStore accepted (laid (pointerBytes p) ps) (laid (pictureBytes q) qs) image marks
+storeLeft (store.Refused s place) ps qs image marks = afterStore (refused s place) ps qs image marks
+
+-- with the image and the marks as the call leaves them
+abbrev pub allLeft : storing.After → List ℕ → List ℕ → Stored
+allLeft a ps qs = storeLeft (a .answer) ps qs (a .image) (a .marks)
+
+unfoldable pub cursorStore : List ℕ → List ℕ → List ℕ → List ℕ → List ℕ → Stored
+cursorStore ps qs packet image marks =
+    cond (recordsWhole (length ps) (length qs))
+    (allLeft (stored (pointerOf ps) (pictureOf qs) packet image marks) ps qs)
+    (afterStore short ps qs image marks)
+
+-- The completeness question: a refusal by its number.
+
+abbrev pub yesOrNo : CompleteAnswer → Yes
+yesOrNo complete.Yes = record { status = 0; yes = true }
+yesOrNo complete.No = record { status = 0; yes = false }
+yesOrNo (complete.Refused s place) = record { status = numberOf s; yes = false }
+
+unfoldable pub cursorComplete : List ℕ → List ℕ → List ℕ → Yes
+cursorComplete qs image marks =
+    cond (leb 15 (length qs))
+    (yesOrNo (completeness (pictureOf qs) (length image) marks))
+    (record { status = numberOf status.NoRoom; yes = false })
+
+-- A refusal changes no lent byte: what a refused call leaves is what was lent. The proofs stand in proofs/Laws/CursorCalls.antt.
+
+unfoldable pub PositionRefusalKeeps : Type 0
+PositionRefusalKeeps =
+    (ps packet : List ℕ) → (cursorPosition ps packet .answer .status ≡ 0 → ⊥)
+    → cursorPosition ps packet ≡ afterPosition (cursorPosition ps packet .answer) ps
+
+unfoldable pub StoreRefusalKeeps : Type 0
+StoreRefusalKeeps =
+    (ps qs packet image marks : List ℕ) → (cursorStore ps qs packet image marks .answer .status ≡ 0 → ⊥)
+    → cursorStore ps qs packet image marks ≡ afterStore (cursorStore ps qs packet image marks .answer) ps qs image marks

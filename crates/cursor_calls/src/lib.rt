@@ -1,0 +1,129 @@
+// The calls of the cursor stream over lent records. Crate ashlarsilk exports each, and says there in words what a host gets.
+ghost use mathlib.Core.Path.{_≡_};
+ghost use lib.ListN.{length};
+ghost use Rattle.cursor.specs.Pointer.{freshPointer};
+ghost use Rattle.cursor.specs.Picture.{freshPicture};
+ghost use Rattle.records.specs.Layout.{laid};
+ghost use Rattle.records.specs.PointerRecord.{pointerBytes};
+ghost use Rattle.records.specs.PictureRecord.{pictureBytes};
+ghost use Rattle.answers.specs.Fresh.{freshAnswer};
+ghost use Rattle.cursor_calls.specs.CursorCalls.{afterPosition, cursorPosition, recordsWhole, afterStore, cursorStore, yesOrNo, cursorComplete};
+use answers::Answer;
+use answers::Yes;
+use answers::accept;
+use answers::refuse;
+use cursor::completeness::CompleteAnswer;
+use cursor::picture::Picture;
+use cursor::pointer::Pointer;
+use cursor::storing::StoreAnswer;
+use records::picture_record;
+use records::pointer_record;
+use wire::status;
+use wire::status::Status;
+
+// Writes that no position is known.
+pub fn pointer_fresh(pointer: &mut [u8]) -> u8
+    ensures answer { λ r. ⌜ r ≡ freshAnswer 7 (length (now (pointer .entry))) ⌝ }
+    ensures bytes { λ _. ⌜ now (pointer .exit) ≡ laid (pointerBytes freshPointer) (now (pointer .entry)) ⌝ }
+{
+    pointer_record::write(pointer, Pointer::fresh());
+    answers::fresh_answer(pointer.len(), pointer_record::LENGTH)
+}
+
+// Writes that no picture is opened.
+pub fn picture_fresh(picture: &mut [u8]) -> u8
+    ensures answer { λ r. ⌜ r ≡ freshAnswer 15 (length (now (picture .entry))) ⌝ }
+    ensures bytes { λ _. ⌜ now (picture .exit) ≡ laid (pictureBytes freshPicture) (now (picture .entry)) ⌝ }
+{
+    picture_record::write(picture, Picture::fresh());
+    answers::fresh_answer(picture.len(), picture_record::LENGTH)
+}
+
+// The call for positions.
+pub fn position(pointer: &mut [u8], packet: &[u8]) -> Answer
+    ensures { λ r. ⌜ afterPosition r (now (pointer .exit)) ≡ cursorPosition (now (pointer .entry)) (now (packet .entry)) ⌝ }
+{
+    if pointer.len() < pointer_record::LENGTH {
+        return refuse(Status::NoRoom, 0);
+    }
+    let after = cursor::pointer::take(pointer_record::read(pointer), packet);
+    let status = after.status;
+    let set = after.pointer;
+    if status::number(status) != 0 {
+        return refuse(status, 0);
+    }
+    pointer_record::write(pointer, set);
+    accept()
+}
+
+// Whether the records, of so many bytes, have all of their own.
+fn are_whole(pointer: usize, picture: usize) -> bool
+    ensures { λ r. ⌜ r ≡ recordsWhole pointer picture ⌝ }
+{
+    if pointer < pointer_record::LENGTH {
+        return false;
+    }
+    picture_record::LENGTH <= picture
+}
+
+// The call for starts and continuations.
+pub fn store(
+    pointer: &mut [u8],
+    picture: &mut [u8],
+    packet: &[u8],
+    image: &mut [u8],
+    marks: &mut [u8],
+) -> Answer
+    ensures { λ r. ⌜ afterStore r (now (pointer .exit)) (now (picture .exit)) (now (image .exit)) (now (marks .exit)) ≡ cursorStore (now (pointer .entry)) (now (picture .entry)) (now (packet .entry)) (now (image .entry)) (now (marks .entry)) ⌝ }
+{
+    if !are_whole(pointer.len(), picture.len()) {
+        return refuse(Status::NoRoom, 0);
+    }
+    match cursor::store(
+        pointer_record::read(pointer),
+        picture_record::read(picture),
+        packet,
+        image,
+        marks,
+    ) {
+        StoreAnswer::Accepted(opened, moved) => {
+            pointer_record::write(pointer, moved);
+            picture_record::write(picture, opened);
+            accept()
+        }
+        StoreAnswer::Refused { status, place } => refuse(status, place),
+    }
+}
+
+// An answer to the completeness question by numbers.
+fn answered(answer: CompleteAnswer) -> Yes
+    ensures { λ r. ⌜ r ≡ yesOrNo answer ⌝ }
+{
+    match answer {
+        CompleteAnswer::Yes => Yes {
+            status: 0,
+            yes: true,
+        },
+        CompleteAnswer::No => Yes {
+            status: 0,
+            yes: false,
+        },
+        CompleteAnswer::Refused { status, place } => Yes {
+            status: status::number(status),
+            yes: false,
+        },
+    }
+}
+
+// Whether the opened picture is complete: a start of it was seen, and every place is filled.
+pub fn complete(picture: &[u8], image: &[u8], marks: &[u8]) -> Yes
+    ensures { λ r. ⌜ r ≡ cursorComplete (now (picture .entry)) (now (image .entry)) (now (marks .entry)) ⌝ }
+{
+    if picture.len() < picture_record::LENGTH {
+        return answered(CompleteAnswer::Refused {
+            status: Status::NoRoom,
+            place: 0,
+        });
+    }
+    answered(cursor::complete(picture_record::read(picture), image, marks))
+}

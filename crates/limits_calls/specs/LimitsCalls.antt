@@ -1,0 +1,57 @@
+-- What the calls of the cursor limits value answer, and what the lent bytes then hold: by the definitions of the value (crate limits) and of
+-- its record as bytes (crate records). s are the bytes of a text, xs those of a record. Assumes nothing.
+use Prim.Native.Nat.{ℕ}
+use mathlib.Core.List.{List}
+use mathlib.Core.Bool.{cond}
+use lib.Dec.{ltb}
+use lib.ListN.{length}
+use Rattle.wire.specs.declared.status.Status.{Status}
+use Rattle.wire.specs.declared.status.Status.the-variants as status
+use Rattle.wire.specs.Status.{numberOf}
+use Rattle.limits.specs.declared.value.Answer.{Answer as ReaderAnswer}
+use Rattle.limits.specs.declared.value.Answer.the-variants as reader
+use Rattle.limits.specs.declared.value.Written.{Written as WriterAnswer}
+use Rattle.limits.specs.declared.value.Written.the-variants as writer
+use Rattle.limits.specs.Reading.{readValue}
+use Rattle.limits.specs.Word.{copied}
+use Rattle.limits.specs.Writing.{spelling, writeAnswer}
+use Rattle.records.specs.Layout.{laid}
+use Rattle.records.specs.LimitsRecord.{limitsBytes, limitsIn}
+use Rattle.answers.specs.declared.Answer.{Answer}
+use Rattle.answers.specs.declared.Written.{Written}
+use Rattle.answers.specs.Answers.{accepted, refused, short}
+
+-- ---- Reading
+
+abbrev pub answerOf : ReaderAnswer → Answer
+answerOf (reader.Accepted v) = accepted
+answerOf (reader.Refused st place) = refused st place
+
+-- 10 where the record is short, else what the reader answers
+unfoldable pub readAnswer : List ℕ → List ℕ → Answer
+readAnswer s xs = cond (ltb (length xs) 8) short (answerOf (readValue s))
+
+-- the record of an accepted value is laid; a refusal, and a short record, change nothing
+abbrev pub recordOf : ReaderAnswer → List ℕ → List ℕ
+recordOf (reader.Accepted v) xs = laid (limitsBytes v) xs
+recordOf (reader.Refused st place) xs = xs
+
+unfoldable pub readRecord : List ℕ → List ℕ → List ℕ
+readRecord s xs = recordOf (readValue s) xs
+
+-- ---- Writing
+
+abbrev pub notWritten : Status → Written
+notWritten st = record { status = numberOf st; size = 0 }
+
+abbrev pub writtenOf : WriterAnswer → Written
+writtenOf (writer.Accepted n) = record { status = 0; size = n }
+writtenOf (writer.Refused st place) = notWritten st
+
+-- 10 where the record is short, else what the writer answers for the record
+unfoldable pub limitsWritten : List ℕ → List ℕ → Written
+limitsWritten xs out = cond (ltb (length xs) 8) (notWritten status.NoRoom) (writtenOf (writeAnswer (limitsIn xs) (length out)))
+
+-- the output afterwards
+unfoldable pub limitsOutput : List ℕ → List ℕ → List ℕ
+limitsOutput xs out = cond (ltb (length xs) 8) out (copied (spelling (limitsIn xs)) out)

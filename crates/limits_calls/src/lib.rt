@@ -1,0 +1,55 @@
+// The calls of the cursor limits value over lent records. Crate ashlarsilk exports each, and says there in words what a host gets.
+ghost use mathlib.Core.Path.{_≡_};
+ghost use Rattle.limits_calls.specs.LimitsCalls.{readAnswer, readRecord, limitsWritten, limitsOutput};
+use answers::Answer;
+use answers::Written;
+use limits::value;
+use records::limits_record;
+use wire::status;
+use wire::status::Status;
+
+// Reads a value, which is all of the lent text, into the record.
+pub fn read(text: &[u8], record: &mut [u8]) -> Answer
+    ensures answer { λ r. ⌜ r ≡ readAnswer (now (text .entry)) (now («record» .entry)) ⌝ }
+    ensures after { λ _. ⌜ now («record» .exit) ≡ readRecord (now (text .entry)) (now («record» .entry)) ⌝ }
+{
+    if record.len() < limits_record::LENGTH {
+        return Answer {
+            status: status::number(Status::NoRoom),
+            place: 0,
+        };
+    }
+    match limits::read(text) {
+        value::Answer::Accepted(found) => {
+            limits_record::write(record, found);
+            Answer {
+                status: 0,
+                place: 0,
+            }
+        }
+        value::Answer::Refused { status, place } => Answer {
+            status: status::number(status),
+            place,
+        },
+    }
+}
+
+// Writes the value of a record to the first bytes of `out`.
+pub fn write(record: &[u8], out: &mut [u8]) -> Written
+    ensures answer { λ r. ⌜ r ≡ limitsWritten (now («record» .entry)) (now (out .entry)) ⌝ }
+    ensures after { λ _. ⌜ now (out .exit) ≡ limitsOutput (now («record» .entry)) (now (out .entry)) ⌝ }
+{
+    if record.len() < limits_record::LENGTH {
+        return Written {
+            status: status::number(Status::NoRoom),
+            size: 0,
+        };
+    }
+    match limits::write(limits_record::read(record), out) {
+        value::Written::Accepted(size) => Written { status: 0, size },
+        value::Written::Refused { status, place } => Written {
+            status: status::number(status),
+            size: 0,
+        },
+    }
+}

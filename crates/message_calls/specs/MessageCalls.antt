@@ -1,0 +1,90 @@
+-- What the calls of connection messages answer, and what the lent bytes then hold: by the definitions of the message (crate message) and of
+-- its record as bytes (crate records). s are the lent bytes of a message, xs those of its record. Assumes nothing.
+use Prim.Native.Nat.{ℕ}
+use mathlib.Core.List.{List}
+use mathlib.Core.Bool.{false, cond}
+use lib.Dec.{ltb}
+use lib.ListN.{length}
+use Rattle.wire.specs.declared.status.Status.{Status}
+use Rattle.wire.specs.declared.status.Status.the-variants as status
+use Rattle.wire.specs.Status.{numberOf}
+use Rattle.scan.specs.Bytes.{copied}
+use Rattle.message.specs.declared.reader.Answer.{Answer as ReaderAnswer}
+use Rattle.message.specs.declared.reader.Answer.the-variants as reader
+use Rattle.message_writer.specs.declared.Written.{Written as WriterAnswer}
+use Rattle.message_writer.specs.declared.Written.the-variants as writer
+use Rattle.message.specs.declared.accessors.SourceId.{SourceId}
+use Rattle.message.specs.Reading.{readMessage}
+use Rattle.message_writer.specs.Writing.{writeAnswer, output}
+use Rattle.message.specs.Accessors.{portOf, optionsOf, sourceOf}
+use Rattle.records.specs.Layout.{laid}
+use Rattle.records.specs.MessageRecord.{messageBytes, messageIn}
+use Rattle.answers.specs.declared.Answer.{Answer}
+use Rattle.answers.specs.declared.Number.{Number}
+use Rattle.answers.specs.declared.Written.{Written}
+use Rattle.answers.specs.declared.Yes.{Yes}
+use Rattle.answers.specs.Answers.{accepted, refused, short}
+
+-- ---- Reading
+
+abbrev pub answerOf : ReaderAnswer → Answer
+answerOf (reader.Accepted m) = accepted
+answerOf (reader.Refused st place) = refused st place
+
+-- 10 where the record is short, else what the reader answers
+unfoldable pub readAnswer : List ℕ → List ℕ → Answer
+readAnswer s xs = cond (ltb (length xs) 64) short (answerOf (readMessage s))
+
+-- the record of an accepted message is laid; a refusal, and a short record, change nothing
+abbrev pub recordOf : ReaderAnswer → List ℕ → List ℕ
+recordOf (reader.Accepted m) xs = laid (messageBytes m) xs
+recordOf (reader.Refused st place) xs = xs
+
+unfoldable pub readRecord : List ℕ → List ℕ → List ℕ
+readRecord s xs = recordOf (readMessage s) xs
+
+-- ---- Writing
+
+abbrev pub notWritten : Status → Written
+notWritten st = record { status = numberOf st; size = 0 }
+
+abbrev pub writtenOf : WriterAnswer → Written
+writtenOf (writer.Wrote n) = record { status = 0; size = n }
+writtenOf (writer.Refused st place) = notWritten st
+
+-- 10 where the record is short, else what the writer answers for the record
+unfoldable pub messageWritten : List ℕ → List ℕ → List ℕ → Written
+messageWritten s xs out = cond (ltb (length xs) 64) (notWritten status.NoRoom) (writtenOf (writeAnswer s (messageIn xs) out))
+
+-- the output afterwards
+unfoldable pub messageOutput : List ℕ → List ℕ → List ℕ → List ℕ
+messageOutput s xs out = cond (ltb (length xs) 64) out (output s (messageIn xs) out)
+
+-- ---- What a record and the bytes that it was read from say
+
+-- a number, or 10 where the record is short
+unfoldable pub numberAnswer : ℕ → List ℕ → Number
+numberAnswer n xs = cond (ltb (length xs) 64) (record { status = numberOf status.NoRoom; value = 0 }) (record { status = 0; value = n })
+
+abbrev pub portAnswer : List ℕ → List ℕ → Number
+portAnswer s xs = numberAnswer (portOf s (messageIn xs)) xs
+
+abbrev pub optionsAnswer : List ℕ → List ℕ → Number
+optionsAnswer s xs = numberAnswer (optionsOf s (messageIn xs)) xs
+
+abbrev pub noAnswer : Yes
+noAnswer = record { status = numberOf status.NoRoom; yes = false }
+
+-- whether there is a Source ID, or 10 where the record or the place for the Source ID is short
+unfoldable pub sourceAnswer : List ℕ → List ℕ → List ℕ → Yes
+sourceAnswer s xs to =
+    cond (ltb (length xs) 64) noAnswer
+    (cond (ltb (length to) 16) noAnswer
+    (record { status = 0; yes = sourceOf s (messageIn xs) .present }))
+
+-- the place for the Source ID afterwards: the Source ID is in its first bytes, if there is one
+abbrev pub sourceCopied : SourceId → List ℕ → List ℕ
+sourceCopied source to = cond (source .present) (copied (source .bytes) to) to
+
+unfoldable pub sourceLent : List ℕ → List ℕ → List ℕ → List ℕ
+sourceLent s xs to = cond (ltb (length xs) 64) to (cond (ltb (length to) 16) to (sourceCopied (sourceOf s (messageIn xs)) to))

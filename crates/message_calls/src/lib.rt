@@ -1,0 +1,120 @@
+// The calls of connection messages over lent records. Crate ashlarsilk exports each, and says there in words what a host gets.
+ghost use mathlib.Core.Path.{_≡_};
+ghost use Rattle.message_calls.specs.MessageCalls.{readAnswer, readRecord, messageWritten, messageOutput, portAnswer, optionsAnswer};
+ghost use Rattle.message_calls.specs.MessageCalls.{sourceAnswer, sourceLent};
+use answers::Answer;
+use answers::Number;
+use answers::Written;
+use answers::Yes;
+use message::accessors;
+use message::reader;
+use records::message_record;
+use scan::bytes;
+use wire::status;
+use wire::status::Status;
+
+// Reads a message, which is all of the lent bytes, into the record.
+pub fn read(bytes: &[u8], record: &mut [u8]) -> Answer
+    ensures answer { λ r. ⌜ r ≡ readAnswer (now (bytes .entry)) (now («record» .entry)) ⌝ }
+    ensures after { λ _. ⌜ now («record» .exit) ≡ readRecord (now (bytes .entry)) (now («record» .entry)) ⌝ }
+{
+    if record.len() < message_record::LENGTH {
+        return Answer {
+            status: status::number(Status::NoRoom),
+            place: 0,
+        };
+    }
+    match reader::read(bytes) {
+        reader::Answer::Accepted(message) => {
+            message_record::write(record, message);
+            Answer {
+                status: 0,
+                place: 0,
+            }
+        }
+        reader::Answer::Refused { status, place } => Answer {
+            status: status::number(status),
+            place,
+        },
+    }
+}
+
+// Writes the message of a record, whose values stand in the lent bytes, to the first bytes of `out`.
+pub fn write(bytes: &[u8], record: &[u8], out: &mut [u8]) -> Written
+    ensures answer { λ r. ⌜ r ≡ messageWritten (now (bytes .entry)) (now («record» .entry)) (now (out .entry)) ⌝ }
+    ensures after { λ _. ⌜ now (out .exit) ≡ messageOutput (now (bytes .entry)) (now («record» .entry)) (now (out .entry)) ⌝ }
+{
+    if record.len() < message_record::LENGTH {
+        return Written {
+            status: status::number(Status::NoRoom),
+            size: 0,
+        };
+    }
+    match message_writer::write(bytes, message_record::read(record), out) {
+        message_writer::Written::Wrote(size) => Written { status: 0, size },
+        message_writer::Written::Refused { status, place } => Written {
+            status: status::number(status),
+            size: 0,
+        },
+    }
+}
+
+// The RTSP port of a record, whose values stand in the lent bytes.
+pub fn rtsp_port(bytes: &[u8], record: &[u8]) -> Number
+    ensures { λ r. ⌜ r ≡ portAnswer (now (bytes .entry)) (now («record» .entry)) ⌝ }
+{
+    if record.len() < message_record::LENGTH {
+        return Number {
+            status: status::number(Status::NoRoom),
+            value: 0,
+        };
+    }
+    Number {
+        status: 0,
+        value: accessors::rtsp_port(bytes, message_record::read(record)),
+    }
+}
+
+// The option byte of a record, the first of the Security Options.
+pub fn security_options(bytes: &[u8], record: &[u8]) -> Number
+    ensures { λ r. ⌜ r ≡ optionsAnswer (now (bytes .entry)) (now («record» .entry)) ⌝ }
+{
+    if record.len() < message_record::LENGTH {
+        return Number {
+            status: status::number(Status::NoRoom),
+            value: 0,
+        };
+    }
+    Number {
+        status: 0,
+        value: accessors::security_options(bytes, message_record::read(record)) as u16,
+    }
+}
+
+// Whether a record has a Source ID; if so, it is copied to the first 16 bytes of `id`.
+pub fn source_id(bytes: &[u8], record: &[u8], id: &mut [u8]) -> Yes
+    ensures answer { λ r. ⌜ r ≡ sourceAnswer (now (bytes .entry)) (now («record» .entry)) (now (id .entry)) ⌝ }
+    ensures after { λ _. ⌜ now (id .exit) ≡ sourceLent (now (bytes .entry)) (now («record» .entry)) (now (id .entry)) ⌝ }
+{
+    if record.len() < message_record::LENGTH {
+        return Yes {
+            status: status::number(Status::NoRoom),
+            yes: false,
+        };
+    }
+    if id.len() < 16 {
+        return Yes {
+            status: status::number(Status::NoRoom),
+            yes: false,
+        };
+    }
+    let source = accessors::source_id(bytes, message_record::read(record));
+    if source.present {
+        let found = source.bytes;
+        bytes::copy(id, &found);
+    }
+    Yes {
+        status: 0,
+        yes: source.present,
+    }
+}

@@ -1,0 +1,67 @@
+-- A slice is too short, or the session steps. Assumes nothing.
+use mathlib.Core.Path.{sym, _∙_}
+use borrow.Author.Tests.{not-true, not-false}
+use denote.Ref.{now}
+use Rattle.session_calls.proofs.Laws.SessionCalls.{step-short, step-taken}
+use borrow.Author.Needs.{needs}
+use Rattle.session_calls.proofs.on_event.Statement.{statement}
+use Rattle.session_calls.proofs.on_event.Tie as tie
+
+are-taken-requires : tie.Need-are-taken-requires
+are-taken-requires c κs = search needs
+
+short-requires : tie.Need-short-requires
+short-requires c κs = search needs
+
+returns : tie.Need-returns
+returns c =
+    let t = c .before .before in
+    let a = t .before .before .before .args in
+    rw (c .short .ensures)
+    (sym (step-short (now (a .«record»)) (a .event) (now (a .source)) (a .options) (sym (t .are-taken .ensures) ∙ not-true _ (c .before .if1 .taken))))
+
+read-requires : tie.Need-read-requires
+read-requires c κs = search needs
+
+source-of-requires : tie.Need-source-of-requires
+source-of-requires c κs = search needs
+
+step-requires : tie.Need-step-requires
+step-requires c κs = search needs
+
+number-of-requires : tie.Need-number-of-requires
+number-of-requires c κs = search needs
+
+leave-requires : tie.Need-leave-requires
+leave-requires c κs = search needs
+
+same-length : tie.Need-same-length
+same-length c = search needs
+
+returns-2 : tie.Need-returns-2
+returns-2 c =
+    let l = c .before .before in
+    let n = l .before in
+    let s = n .before .before in
+    let r = s .before .before in
+    let i = r .before .before in
+    let t = i .before in
+    let a = t .before .before .before .args in
+    l .leave .ensures
+    ∙ rw (n .number-of .ensures, s .step .ensures, s .before .source-of .ensures, r .read .ensures)
+    (sym (step-taken (now (a .«record»)) (a .event) (now (a .source)) (a .options) (sym (t .are-taken .ensures) ∙ not-false _ (i .if1 .left))))
+
+pub on-event-spec : {M : Type 1} → statement M
+on-event-spec =
+    tie.close
+    (tie.spec
+    are-taken-requires
+    short-requires
+    returns
+    read-requires
+    source-of-requires
+    step-requires
+    number-of-requires
+    leave-requires
+    same-length
+    returns-2)

@@ -1,0 +1,64 @@
+-- The calls of the session: what each answers, and what the lent record then holds. Assumes nothing.
+use Prim.Native.Nat.{ℕ}
+use mathlib.Core.Bool.{Bool, false, not, cond, _&&_, _||_}
+use mathlib.Core.List.{List}
+use lib.Dec.{eqb, leb}
+use lib.ListN.{length}
+use Rattle.wire.specs.declared.status.Status.the-variants as status
+use Rattle.wire.specs.Status.{numberOf}
+use Rattle.wire.specs.Number.{written}
+use Rattle.message.specs.declared.accessors.SourceId.{SourceId}
+use Rattle.session.specs.declared.step.Answer.{Answer}
+use Rattle.session.specs.declared.step.Stepped.{Stepped}
+use Rattle.session.specs.Step.{stepOf}
+use Rattle.session.specs.Message.{onMessage}
+use Rattle.records.specs.Layout.{laid}
+use Rattle.records.specs.SessionRecord.{idAt, stateNumber, sessionBytes, sessionOf}
+use Rattle.answers.specs.declared.Step.{Step}
+
+-- an answer, with what the lent record then holds
+pub record After : Type 0 where
+  pub answer : Step
+  pub bytes : List ℕ
+
+abbrev pub after : Step → List ℕ → After
+after r xs = record { answer = r; bytes = xs }
+
+-- a lent slice is too short: 10, and nothing changes
+abbrev pub shortStep : Step
+shortStep = record { status = numberOf status.NoRoom; check = false; place = 0 }
+
+-- a step's answer by the paper's number
+abbrev pub answerOf : Answer → Step
+answerOf a = record { status = numberOf (a .status); check = a .check; place = a .place }
+
+-- What a step leaves in the record xs, where the state's number was `before`: an accepted one the session afterwards; a refused one
+-- nothing but the state, and that only if it is another ("Every refusal changes nothing, except 14 in an open session, which closes it").
+unfoldable pub bytesLeft : ℕ → Stepped → List ℕ → List ℕ
+bytesLeft before s xs =
+    cond (eqb (numberOf (s .answer .status)) 0) (laid (sessionBytes (s .session)) xs)
+    (cond (eqb (stateNumber (s .session .state)) before) xs (written 1 (stateNumber (s .session .state)) 0 xs))
+
+abbrev pub left : ℕ → Stepped → List ℕ → After
+left before s xs = after (answerOf (s .answer)) (bytesLeft before s xs)
+
+-- on the session in the record
+abbrev pub leftBy : Stepped → List ℕ → After
+leftBy s xs = left (stateNumber (sessionOf xs .state)) s xs
+
+-- a lent Source ID: no bytes where there is none, else its first 16
+unfoldable pub sourceIn : List ℕ → SourceId
+sourceIn xs = record { present = not (eqb (length xs) 0); bytes = idAt 0 xs }
+
+-- the record has its 19 bytes, and the lent Source ID none or its 16
+unfoldable pub taken : ℕ → List ℕ → Bool
+taken lent source = leb 19 lent && (eqb (length source) 0 || leb 16 (length source))
+
+-- a step with an event, on the session in the record xs
+unfoldable pub sessionStep : List ℕ → ℕ → List ℕ → ℕ → After
+sessionStep xs event source options =
+    cond (taken (length xs) source) (leftBy (stepOf (sessionOf xs) event (sourceIn source) options) xs) (after shortStep xs)
+
+-- a step with the message in `bytes`
+unfoldable pub sessionMessage : List ℕ → List ℕ → After
+sessionMessage xs bytes = cond (leb 19 (length xs)) (leftBy (onMessage (sessionOf xs) bytes) xs) (after shortStep xs)
