@@ -1,6 +1,5 @@
 pub mod Layout
 pub mod LimitsRecord
-pub mod Little
 pub mod MessageRecord
 pub mod PictureRecord
 pub mod PointerRecord

@@ -10,7 +10,7 @@ use Rattle.limits.specs.declared.value.Xor.the-variants as xor
 use Rattle.limits.specs.declared.value.Value.{Value}
 use Rattle.limits.specs.declared.value.Value.the-variants as value
 use Rattle.records.specs.Layout.{laid}
-use Rattle.records.specs.Little.{number, bytes}
+use Rattle.little_endian.specs.Little.{number, bytes}
 
 -- the XOR operation: 0 for no, any other byte for yes, written as 1
 abbrev pub xorByte : Xor → ℕ

@@ -10,7 +10,7 @@ use Rattle.message.specs.Record.{fieldOf}
 use Rattle.message.specs.Reading.{readMessage}
 use Rattle.message.specs.Theorems.{Bytes}
 use Rattle.records.specs.Layout.{flag, isSet, laid}
-use Rattle.records.specs.Little.{number, bytes}
+use Rattle.little_endian.specs.Little.{number, bytes}
 
 -- a field: whether it is there, the place and the length of its value
 unfoldable pub fieldBytes : Field → List ℕ

@@ -7,7 +7,7 @@ use lib.ListN.{length}
 use Rattle.packet.specs.declared.start.Start.{Start}
 use Rattle.cursor.specs.declared.picture.Picture.{Picture}
 use Rattle.records.specs.Layout.{flag, isSet, laid}
-use Rattle.records.specs.Little.{number, bytes}
+use Rattle.little_endian.specs.Little.{number, bytes}
 
 -- the last six bytes: whether a start was seen, and its own fields
 unfoldable pub startBytes : Bool → Start → List ℕ

@@ -7,7 +7,7 @@ use lib.Signed.{mag}
 use Rattle.wire.specs.Signed.{signed, unsigned}
 use Rattle.cursor.specs.declared.pointer.Pointer.{Pointer}
 use Rattle.records.specs.Layout.{flag, isSet, laid}
-use Rattle.records.specs.Little.{number, bytes}
+use Rattle.little_endian.specs.Little.{number, bytes}
 
 -- its bytes
 unfoldable pub pointerBytes : Pointer → List ℕ

@@ -8,7 +8,7 @@ use Rattle.session.specs.declared.record.State.{State}
 use Rattle.session.specs.declared.record.State.the-variants as state
 use Rattle.session.specs.declared.record.Session.{Session}
 use Rattle.records.specs.Layout.{flag, isSet, laid}
-use Rattle.records.specs.Little.{number, bytes}
+use Rattle.little_endian.specs.Little.{number, bytes}
 
 -- the numbers of the states, from 0 on; any greater number is Closed
 unfoldable pub stateOf : ℕ → State

@@ -15,10 +15,10 @@ ghost use lib.ListN.{length};
 ghost use Rattle.wire.specs.Splice.{splice};
 ghost use Rattle.records.specs.Layout.{laid};
 ghost use Rattle.records.specs.MessageRecord.{fieldBytes, fieldIn, messageBytes, messageIn};
-use crate::little::put_u8;
-use crate::little::put_u32;
-use crate::little::u8_at;
-use crate::little::u32_at;
+use little_endian::put_u8;
+use little_endian::put_u32;
+use little_endian::u8_at;
+use little_endian::u32_at;
 use message::record::Field;
 use message::record::Message;
 

@@ -14,8 +14,8 @@ use Rattle.wire.specs.Splice.{splice}
 use Rattle.wire.proofs.Laws.Splice.{length-splice, splice-none, splice-next, in-part}
 use Rattle.wire.proofs.Laws.Bool.{by-test}
 use Rattle.records.specs.Layout.{flag, isSet, laid}
-use Rattle.records.specs.Little.{number, bytes, written}
-use Rattle.records.proofs.Laws.Little.{number-same, number-bytes, length-bytes}
+use Rattle.little_endian.specs.Little.{number, bytes, written}
+use Rattle.little_endian.proofs.Laws.Little.{number-same, number-bytes, length-bytes}
 
 -- ys is xs with ds laid in the places from `at` to `to`
 pub record Written (at to : ℕ) (ds xs ys : List ℕ) : Type 0 where

@@ -10,9 +10,9 @@ use Rattle.limits.specs.declared.value.Value.{Value}
 use Rattle.limits.specs.declared.value.Value.the-variants as value
 use Rattle.records.specs.Layout.{laid}
 use Rattle.records.specs.LimitsRecord.{xorByte, xorOf, numberBytes, limitsBytes, limitsIn, LimitsBack}
-use Rattle.records.specs.Little.{number, bytes, written}
+use Rattle.little_endian.specs.Little.{number, bytes, written}
 use Rattle.records.proofs.Laws.Layout.{nothing, next, whole, Begins, laid-begins, before, number-in}
-use Rattle.records.proofs.Laws.Little.{length-bytes}
+use Rattle.little_endian.proofs.Laws.Little.{length-bytes}
 
 module _ (supported x w h p : ℕ) where
   pub length-numbers : length (numberBytes supported x w h p) ≡ 8

@@ -20,10 +20,10 @@ use Rattle.message.proofs.Laws.Record.{field-with, field-empty}
 use Rattle.message.proofs.Laws.Rules.{type-small, type-not-1}
 use Rattle.message.proofs.Laws.WellFormed.{sound}
 use Rattle.records.specs.Layout.{flag, laid}
-use Rattle.records.specs.Little.{bytes, written}
+use Rattle.little_endian.specs.Little.{bytes, written}
 use Rattle.records.specs.MessageRecord.{fieldBytes, fieldIn, messageBytes, messageIn, Held, MessageBack, AcceptedBack}
 use Rattle.records.proofs.Laws.Layout.{nothing, next, next-part, whole, Begins, laid-begins, before-part, before, number-in, flag-in}
-use Rattle.records.proofs.Laws.Little.{length-bytes}
+use Rattle.little_endian.proofs.Laws.Little.{length-bytes}
 
 pub length-field : (f : Field) → length (fieldBytes f) ≡ 9
 unfolding fieldBytes

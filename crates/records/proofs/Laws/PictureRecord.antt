@@ -7,7 +7,7 @@ use lib.ListN.{length}
 use Rattle.packet.specs.declared.start.Start.{Start}
 use Rattle.cursor.specs.declared.picture.Picture.{Picture}
 use Rattle.records.specs.Layout.{flag, laid}
-use Rattle.records.specs.Little.{bytes}
+use Rattle.little_endian.specs.Little.{bytes}
 use Rattle.records.specs.PictureRecord.{startBytes, pictureBytes, pictureOf, PictureReadsBack}
 use Rattle.records.proofs.Laws.Layout.{Begins, laid-begins, before, number-in, flag-in}
 

@@ -12,7 +12,7 @@ use Rattle.wire.specs.Signed.{signed, unsigned}
 use Rattle.wire.proofs.Laws.Signed.{signed-toZ, unsigned-ofZ}
 use Rattle.cursor.specs.declared.pointer.Pointer.{Pointer}
 use Rattle.records.specs.Layout.{flag, laid}
-use Rattle.records.specs.Little.{bytes}
+use Rattle.little_endian.specs.Little.{bytes}
 use Rattle.records.specs.PointerRecord.{pointerBytes, pointerOf, PointerReadsBack}
 use Rattle.records.proofs.Laws.Layout.{Begins, laid-begins, before, number-in, flag-in}
 

@@ -11,7 +11,7 @@ use Rattle.session.specs.declared.record.State.{State}
 use Rattle.session.specs.declared.record.State.the-variants as state
 use Rattle.session.specs.declared.record.Session.{Session}
 use Rattle.records.specs.Layout.{flag, laid}
-use Rattle.records.specs.Little.{bytes}
+use Rattle.little_endian.specs.Little.{bytes}
 use Rattle.records.specs.SessionRecord.{stateOf, stateNumber, idAt, sessionBytes, sessionOf, SessionReadsBack}
 use Rattle.records.proofs.Laws.Layout.{laid-fits, Begins, laid-begins, before-part, before, number-in, flag-in}
 

@@ -1,7 +1,7 @@
 -- The three numbers are laid one after the other. Assumes nothing.
 use Prim.Native.Nat.{ℕ}
 use mathlib.Core.Path.{ap, _∙_}
-use Rattle.records.specs.Little.{written}
+use Rattle.little_endian.specs.Little.{written}
 use Rattle.records.proofs.Laws.Layout.{flag-byte}
 use denote.Ref.{now}
 use Rattle.records.proofs.Laws.MessageRecord.{field-written}

@@ -2,7 +2,7 @@
 use mathlib.Core.Path.{sym}
 use native.Mathlib.Omega.{arith}
 use denote.Ref.{now}
-use Rattle.records.specs.Little.{bytes}
+use Rattle.little_endian.specs.Little.{bytes}
 use Rattle.records.specs.PictureRecord.{startBytes, pictureBytes}
 use Rattle.records.proofs.Laws.Layout.{nothing, next, next-as, next-part, whole, laid-short, flag-byte}
 use Rattle.records.proofs.Laws.PictureRecord.{start-length}

@@ -6,7 +6,7 @@ use mir.ValLaws.{toZ-ofZ}
 use native.Mathlib.Omega.{arith}
 use denote.Ref.{now}
 use Rattle.wire.specs.Signed.{unsigned}
-use Rattle.records.specs.Little.{bytes}
+use Rattle.little_endian.specs.Little.{bytes}
 use Rattle.records.specs.PointerRecord.{pointerBytes}
 use Rattle.records.proofs.Laws.Layout.{nothing, next, next-as, whole, laid-short, flag-byte}
 use borrow.Author.Needs.{needs}
