@@ -3,6 +3,8 @@ ghost use mathlib.Core.Path.{_≡_};
 ghost use Rattle.limits_calls.specs.LimitsCalls.{readAnswer, readRecord, limitsWritten, limitsOutput};
 use answers::Answer;
 use answers::Written;
+use answers::accept;
+use answers::refuse;
 use limits::value;
 use records::limits_record;
 use wire::status;
@@ -14,23 +16,14 @@ pub fn read(text: &[u8], record: &mut [u8]) -> Answer
     ensures after { λ _. ⌜ now («record» .exit) ≡ readRecord (now (text .entry)) (now («record» .entry)) ⌝ }
 {
     if record.len() < limits_record::LENGTH {
-        return Answer {
-            status: status::number(Status::NoRoom),
-            place: 0,
-        };
+        return refuse(Status::NoRoom, 0);
     }
     match limits::read(text) {
         value::Answer::Accepted(found) => {
             limits_record::write(record, found);
-            Answer {
-                status: 0,
-                place: 0,
-            }
+            accept()
         }
-        value::Answer::Refused { status, place } => Answer {
-            status: status::number(status),
-            place,
-        },
+        value::Answer::Refused { status, place } => refuse(status, place),
     }
 }
 

@@ -6,6 +6,8 @@ use answers::Answer;
 use answers::Number;
 use answers::Written;
 use answers::Yes;
+use answers::accept;
+use answers::refuse;
 use message::accessors;
 use message::reader;
 use records::message_record;
@@ -19,23 +21,14 @@ pub fn read(bytes: &[u8], record: &mut [u8]) -> Answer
     ensures after { λ _. ⌜ now («record» .exit) ≡ readRecord (now (bytes .entry)) (now («record» .entry)) ⌝ }
 {
     if record.len() < message_record::LENGTH {
-        return Answer {
-            status: status::number(Status::NoRoom),
-            place: 0,
-        };
+        return refuse(Status::NoRoom, 0);
     }
     match reader::read(bytes) {
         reader::Answer::Accepted(message) => {
             message_record::write(record, message);
-            Answer {
-                status: 0,
-                place: 0,
-            }
+            accept()
         }
-        reader::Answer::Refused { status, place } => Answer {
-            status: status::number(status),
-            place,
-        },
+        reader::Answer::Refused { status, place } => refuse(status, place),
     }
 }
 

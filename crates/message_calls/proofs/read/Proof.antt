@@ -6,14 +6,14 @@ use borrow.Author.Needs.{needs}
 use Rattle.message_calls.proofs.read.Statement.{statement}
 use Rattle.message_calls.proofs.read.Tie as tie
 
-number-requires : tie.Need-number-requires
-number-requires c κs = search needs
+refuse-requires : tie.Need-refuse-requires
+refuse-requires c κs = search needs
 
 returns : tie.Need-returns
 returns c =
     let i = c .before in
     let a = i .before .before .before .args in
-    rw (c .number .ensures) (read-short (now (a .bytes)) (now (a .«record»)) (i .if1 .taken))
+    rw (c .refuse .ensures) (read-short (now (a .bytes)) (now (a .«record»)) (i .if1 .taken))
 
 read-requires : tie.Need-read-requires
 read-requires c κs = search needs
@@ -24,23 +24,26 @@ enum-known-message c = search needs
 write-requires : tie.Need-write-requires
 write-requires c κs = search needs
 
+accept-requires : tie.Need-accept-requires
+accept-requires c κs = search needs
+
 enum-known-status : tie.Need-enum-known-status
 enum-known-status c = search needs
 
-number-requires-2 : tie.Need-number-requires-2
-number-requires-2 c κs = search needs
+refuse-requires-2 : tie.Need-refuse-requires-2
+refuse-requires-2 c κs = search needs
 
 same-length : tie.Need-same-length
 same-length c = search needs
 
 returns-2 : tie.Need-returns-2
 returns-2 c =
-    let w = c .before .before in
+    let w = c .before .before .before in
     let m = w .before .before .before in
     let r = m .before .before in
     let i = r .before in
     let a = i .before .before .before .args in
-    rw (w .write .ensures) (read-answered (now (a .bytes)) (now (a .«record»)) _ (i .if1 .left) (sym (r .read .ensures) ∙ m .message .given .1))
+    rw (c .accept .ensures, w .write .ensures) (read-answered (now (a .bytes)) (now (a .«record»)) _ (i .if1 .left) (sym (r .read .ensures) ∙ m .message .given .1))
 
 returns-3 : tie.Need-returns-3
 returns-3 c =
@@ -48,19 +51,20 @@ returns-3 c =
     let r = m .before .before in
     let i = r .before in
     let a = i .before .before .before .args in
-    rw (c .number2 .ensures) (read-answered (now (a .bytes)) (now (a .«record»)) _ (i .if1 .left) (sym (r .read .ensures) ∙ m .status .given .1))
+    rw (c .refuse2 .ensures) (read-answered (now (a .bytes)) (now (a .«record»)) _ (i .if1 .left) (sym (r .read .ensures) ∙ m .status .given .1))
 
 pub read-spec : {M : Type 1} → statement M
 read-spec =
     tie.close
     (tie.spec
-    number-requires
+    refuse-requires
     returns
     read-requires
     enum-known-message
     write-requires
+    accept-requires
     enum-known-status
-    number-requires-2
+    refuse-requires-2
     same-length
     returns-2
     returns-3)
