@@ -1,5 +1,6 @@
 -- The calls of the session: what each answers, and what the lent record then holds. Assumes nothing.
 use Prim.Native.Nat.{ℕ}
+use mathlib.Core.Path.{_≡_}
 use mathlib.Core.Bool.{Bool, false, not, cond, _&&_, _||_}
 use mathlib.Core.List.{List}
 use lib.Dec.{eqb, leb}
@@ -62,3 +63,16 @@ sessionStep xs event source options =
 -- a step with the message in `bytes`
 unfoldable pub sessionMessage : List ℕ → List ℕ → After
 sessionMessage xs bytes = cond (leb 19 (length xs)) (leftBy (onMessage (sessionOf xs) bytes) xs) (after shortStep xs)
+
+-- A refusal other than 14 changes no byte of the record ("Every refusal changes nothing, except 14 in an open session, which closes it").
+-- The proofs stand in proofs/Laws/SessionCalls.antt.
+
+-- what holds of an answer to a call on the record xs, and of what the record then holds
+unfoldable pub KeptIfRefused : List ℕ → After → Type 0
+KeptIfRefused xs r = (r .answer .status ≡ 0 → ⊥) → (r .answer .status ≡ 14 → ⊥) → r ≡ after (r .answer) xs
+
+unfoldable pub StepRefusalKeeps : Type 0
+StepRefusalKeeps = (xs : List ℕ) (event : ℕ) (source : List ℕ) (options : ℕ) → KeptIfRefused xs (sessionStep xs event source options)
+
+unfoldable pub MessageRefusalKeeps : Type 0
+MessageRefusalKeeps = (xs bytes : List ℕ) → KeptIfRefused xs (sessionMessage xs bytes)

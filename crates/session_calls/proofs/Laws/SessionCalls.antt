@@ -1,14 +1,29 @@
 -- The calls of the session by their outcomes. Assumes nothing.
 use Prim.Native.Nat.{ℕ, _≤_, _<_}
-use mathlib.Core.Path.{_≡_}
+use mathlib.Core.Path.{_≡_, refl, ap}
 use mathlib.Core.Bool.{true, false}
 use mathlib.Core.List.{List}
-use borrow.Author.Tests.{le-leb, lt-leb}
+use mathlib.Core.Logic.{_⊎_, inl, inr}
+use borrow.Author.Tests.{le-leb, lt-leb, eq-eqb, ne-eqb}
+use lib.Dec.{leb}
 use lib.ListN.{length}
+use Rattle.wire.specs.Status.{numberOf}
+use Rattle.wire.specs.declared.status.Status.the-variants as status
+use Rattle.wire.proofs.Laws.Bool.{by-test}
+use Rattle.message.specs.declared.reader.Answer.{Answer}
+use Rattle.message.specs.declared.reader.Answer.the-variants as reader
+use Rattle.message.specs.Reading.{readMessage}
+use Rattle.message.specs.Accessors.{sourceOf, optionsOf}
+use Rattle.session.specs.declared.record.Session.{Session}
+use Rattle.session.specs.declared.step.Stepped.{Stepped}
+use Rattle.session.specs.Record.{isOpen}
+use Rattle.session.specs.Step.{closed, refused}
+use Rattle.session.specs.Runs.{Event, stepped, next}
+use Rattle.session.proofs.Laws.Runs.{refusal-keeps}
 use Rattle.session.specs.Step.{stepOf}
-use Rattle.session.specs.Message.{onMessage}
-use Rattle.records.specs.SessionRecord.{sessionOf}
-use Rattle.session_calls.specs.SessionCalls.{after, shortStep, leftBy, sourceIn, taken, sessionStep, sessionMessage}
+use Rattle.session.specs.Message.{afterRead, onMessage}
+use Rattle.records.specs.SessionRecord.{stateNumber, sessionOf}
+use Rattle.session_calls.specs.SessionCalls.{after, shortStep, answerOf, bytesLeft, leftBy, sourceIn, taken, sessionStep, sessionMessage, KeptIfRefused, StepRefusalKeeps, MessageRefusalKeeps}
 
 module _ (xs : List ℕ) (event : ℕ) (source : List ℕ) (options : ℕ) where
   pub step-short : taken (length xs) source ≡ false → sessionStep xs event source options ≡ after shortStep xs
@@ -29,3 +44,42 @@ module _ (xs bytes : List ℕ) where
   pub message-taken : 19 ≤ length xs → sessionMessage xs bytes ≡ leftBy (onMessage (sessionOf xs) bytes) xs
   unfolding sessionMessage
   message-taken h = simp (le-leb 19 (length xs) h)
+
+-- A refusal other than 14 keeps the record: it leaves the session as it was.
+
+module _ (xs : List ℕ) where
+  left-kept
+      : (r : Stepped) → r .session ≡ sessionOf xs → (numberOf (r .answer .status) ≡ 0 → ⊥) → leftBy r xs ≡ after (answerOf (r .answer)) xs
+  unfolding bytesLeft
+  left-kept r e h =
+      simp (
+        ne-eqb (numberOf (r .answer .status)) 0 h,
+        eq-eqb (stateNumber (r .session .state)) (stateNumber (sessionOf xs .state)) (ap (λ (s : Session). stateNumber (s .state)) e),
+      )
+
+  event-kept : (e : Event) → KeptIfRefused xs (leftBy (stepped (sessionOf xs) e) xs)
+  unfolding KeptIfRefused Rattle.session.specs.Theorems.RefusalKeeps
+  event-kept e h k = by (refusal-keeps (sessionOf xs) e (ne-eqb (numberOf (stepped (sessionOf xs) e .answer .status)) 0 h))
+    where
+      by : (next (sessionOf xs) e ≡ sessionOf xs)
+          ⊎ ((isOpen (sessionOf xs .state) ≡ true) × (stepped (sessionOf xs) e ≡ refused status.UnexpectedEvent 0 (closed (sessionOf xs))))
+          → leftBy (stepped (sessionOf xs) e) xs ≡ after (answerOf (stepped (sessionOf xs) e .answer)) xs
+      by (inl q) = left-kept (stepped (sessionOf xs) e) q h
+      by (inr q) = absurd (k (ap (λ (r : Stepped). numberOf (r .answer .status)) (q .1)))
+
+  read-kept : (bytes : List ℕ) (a : Answer) → KeptIfRefused xs (leftBy (afterRead bytes (sessionOf xs) a) xs)
+  unfolding KeptIfRefused
+  read-kept bytes (reader.Accepted m) = event-kept (record { number = m .command; source = sourceOf bytes m; options = optionsOf bytes m })
+  read-kept bytes (reader.Refused st place) = λ h k. left-kept (refused st place (sessionOf xs)) refl h
+
+pub step-refusal-keeps : StepRefusalKeeps
+unfolding StepRefusalKeeps sessionStep KeptIfRefused
+step-refusal-keeps xs event source options =
+    by-test (KeptIfRefused xs) (taken (length xs) source) _ (after shortStep xs)
+    (λ e. event-kept xs (record { number = event; source = sourceIn source; options = options }))
+    (λ e h k. refl)
+
+pub message-refusal-keeps : MessageRefusalKeeps
+unfolding MessageRefusalKeeps sessionMessage onMessage KeptIfRefused
+message-refusal-keeps xs bytes =
+    by-test (KeptIfRefused xs) (leb 19 (length xs)) _ (after shortStep xs) (λ e. read-kept xs bytes (readMessage bytes)) (λ e h k. refl)
