@@ -2,7 +2,7 @@
 use mathlib.Core.Path.{_≡_, refl}
 use mathlib.Core.List.{[], _∷_}
 use Rattle.wire.specs.Splice.{splice}
-use Rattle.little_endian.specs.Little.{number, bytes, written}
+use Rattle.little_endian.specs.Little.{number, numberAt, bytes, written}
 
 -- 7,236 is 1C44 hex: 44 1C, the least significant byte first
 pub port-bytes : bytes 2 0x1c44 ≡ 0x44 ∷ 0x1c ∷ []
@@ -17,9 +17,13 @@ pub port : number 2 (0x44 ∷ 0x1c ∷ []) 0 ≡ 7236
 unfolding number
 port = refl
 
--- past the end a byte counts as 0
-pub past-the-end : number 2 (0x44 ∷ 0x1c ∷ []) 1 ≡ 28
-unfolding number
+pub port-at : numberAt 2 (9 ∷ 0x44 ∷ 0x1c ∷ []) 1 ≡ 7236
+unfolding numberAt number
+port-at = refl
+
+-- a number whose bytes are not all there counts as 0
+pub past-the-end : numberAt 2 (0x44 ∷ 0x1c ∷ []) 1 ≡ 0
+unfolding numberAt
 past-the-end = refl
 
 pub port-written : written 2 7236 1 (9 ∷ 9 ∷ 9 ∷ 9 ∷ []) ≡ 9 ∷ 0x44 ∷ 0x1c ∷ 9 ∷ []

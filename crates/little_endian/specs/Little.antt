@@ -12,6 +12,10 @@ unfoldable pub number : ℕ → List ℕ → ℕ → ℕ
 number zero s at = 0
 number (suc n) s at = getD s at 0 + 256 * number n s (at + 1)
 
+-- the same, but 0 where the bytes are not all there: what is read from a record
+unfoldable pub numberAt : ℕ → List ℕ → ℕ → ℕ
+numberAt n s at = cond (leb (at + n) (length s)) (number n s at) 0
+
 -- v in n bytes, the least significant first; what n bytes can't hold of it is left out
 unfoldable pub bytes : ℕ → ℕ → List ℕ
 bytes zero v = []

@@ -3,20 +3,8 @@
 ghost use mathlib.Core.Path.{_≡_};
 ghost use Prim.Native.Nat.{_+_, _≤_, _<_, _^_};
 ghost use lib.Dec.{leb};
-ghost use lib.ListN.{length, getD};
-ghost use Rattle.little_endian.specs.Little.{number, written};
-
-// The byte k places after `at`, or 0 past the end.
-fn byte(s: &[u8], at: usize, k: usize) -> u8
-    ensures { λ r. ⌜ r ≡ getD (now (s .entry)) (at + k) 0 ⌝ }
-{
-    if at < s.len() {
-        if k < s.len() - at {
-            return s[at + k];
-        }
-    }
-    0
-}
+ghost use lib.ListN.{length};
+ghost use Rattle.little_endian.specs.Little.{number, numberAt, written};
 
 // The number in the n bytes from `at`, where all of them are there: the last byte is read first.
 fn whole(s: &[u8], at: usize, n: usize) -> u32
@@ -33,51 +21,37 @@ fn whole(s: &[u8], at: usize, n: usize) -> u32
     value
 }
 
-// The number in the n bytes from `at`, where the bytes may end before.
-fn padded(s: &[u8], at: usize, n: usize) -> u32
-    requires { ⌜ n ≤ 4 ⌝ }
-    ensures { λ r. ⌜ (r ≡ number n (now (s .entry)) at) × (r < 256 ^ n) ⌝ }
-{
-    let mut v: u32 = 0;
-    let mut k = n;
-    while 0 < k {
-        k -= 1;
-        let b = byte(s, at, k) as u32;
-        v = 256 * v + b;
-    }
-    v
-}
-
-// The number in the n bytes from `at`: the reading that every width shares. One test finds whether all of them are there.
+// The number in the n bytes from `at`, or 0 where they are not all there. The reading that every width shares.
 fn read(s: &[u8], at: usize, n: usize) -> u32
     requires { ⌜ n ≤ 4 ⌝ }
-    ensures { λ r. ⌜ (r ≡ number n (now (s .entry)) at) × (r < 256 ^ n) ⌝ }
+    ensures { λ r. ⌜ (r ≡ numberAt n (now (s .entry)) at) × (r < 256 ^ n) ⌝ }
 {
-    if at < s.len() {
-        if n <= s.len() - at {
-            return whole(s, at, n);
-        }
+    if s.len() < n {
+        return 0;
     }
-    padded(s, at, n)
+    if s.len() - n < at {
+        return 0;
+    }
+    whole(s, at, n)
 }
 
 // The number in the byte at `at`, or 0 past the end.
 pub fn u8_at(s: &[u8], at: usize) -> u8
-    ensures { λ r. ⌜ r ≡ number 1 (now (s .entry)) at ⌝ }
+    ensures { λ r. ⌜ r ≡ numberAt 1 (now (s .entry)) at ⌝ }
 {
     read(s, at, 1) as u8
 }
 
-// The number in the two bytes from `at`; a byte past the end counts as 0.
+// The number in the two bytes from `at`, or 0 where they are not all there.
 pub fn u16_at(s: &[u8], at: usize) -> u16
-    ensures { λ r. ⌜ r ≡ number 2 (now (s .entry)) at ⌝ }
+    ensures { λ r. ⌜ r ≡ numberAt 2 (now (s .entry)) at ⌝ }
 {
     read(s, at, 2) as u16
 }
 
-// The number in the four bytes from `at`; a byte past the end counts as 0.
+// The number in the four bytes from `at`, or 0 where they are not all there.
 pub fn u32_at(s: &[u8], at: usize) -> u32
-    ensures { λ r. ⌜ r ≡ number 4 (now (s .entry)) at ⌝ }
+    ensures { λ r. ⌜ r ≡ numberAt 4 (now (s .entry)) at ⌝ }
 {
     read(s, at, 4)
 }

@@ -7,7 +7,7 @@ use lib.ListN.{length}
 use Rattle.packet.specs.declared.start.Start.{Start}
 use Rattle.cursor.specs.declared.picture.Picture.{Picture}
 use Rattle.records.specs.Layout.{flag, isSet, laid}
-use Rattle.little_endian.specs.Little.{number, bytes}
+use Rattle.little_endian.specs.Little.{numberAt, bytes}
 
 -- the last six bytes: whether a start was seen, and its own fields
 unfoldable pub startBytes : Bool → Start → List ℕ
@@ -22,12 +22,12 @@ pictureBytes q =
 unfoldable pub pictureOf : List ℕ → Picture
 pictureOf xs =
     record {
-      opened = isSet (number 1 xs 0);
-      id = number 2 xs 1;
-      total = number 4 xs 3;
-      opening = number 2 xs 7;
-      seen = isSet (number 1 xs 9);
-      start = record { «image_type» = number 1 xs 10; «hot_x» = number 2 xs 11; «hot_y» = number 2 xs 13 };
+      opened = isSet (numberAt 1 xs 0);
+      id = numberAt 2 xs 1;
+      total = numberAt 4 xs 3;
+      opening = numberAt 2 xs 7;
+      seen = isSet (numberAt 1 xs 9);
+      start = record { «image_type» = numberAt 1 xs 10; «hot_x» = numberAt 2 xs 11; «hot_y» = numberAt 2 xs 13 };
     }
 
 -- the numbers are no larger than their bytes hold

@@ -8,7 +8,7 @@ use Rattle.session.specs.declared.record.State.{State}
 use Rattle.session.specs.declared.record.State.the-variants as state
 use Rattle.session.specs.declared.record.Session.{Session}
 use Rattle.records.specs.Layout.{flag, isSet, laid}
-use Rattle.little_endian.specs.Little.{number, bytes}
+use Rattle.little_endian.specs.Little.{numberAt, bytes}
 
 -- the numbers of the states, from 0 on; any greater number is Closed
 unfoldable pub stateOf : ℕ → State
@@ -34,9 +34,9 @@ sessionBytes s = bytes 1 (stateNumber (s .state)) ++ bytes 1 (s .options) ++ byt
 unfoldable pub sessionOf : List ℕ → Session
 sessionOf xs =
     record {
-      state = stateOf (number 1 xs 0);
-      options = number 1 xs 1;
-      source = record { present = isSet (number 1 xs 2); bytes = idAt 3 xs };
+      state = stateOf (numberAt 1 xs 0);
+      options = numberAt 1 xs 1;
+      source = record { present = isSet (numberAt 1 xs 2); bytes = idAt 3 xs };
     }
 
 -- What is written reads back, where the options are one byte and the Source ID has its 16. The proof stands in

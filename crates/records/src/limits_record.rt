@@ -37,7 +37,7 @@ fn byte_of(xor: Xor) -> u8
     }
 }
 
-// The value in the bytes; a byte past the end counts as 0.
+// The value in the bytes; a number whose bytes are not all there counts as 0.
 pub fn read(record: &[u8]) -> Value
     ensures { λ r. ⌜ r ≡ limitsIn (now («record» .entry)) ⌝ }
 {

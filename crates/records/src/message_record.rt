@@ -36,7 +36,7 @@ fn field_at(record: &[u8], at: usize) -> Field
     }
 }
 
-// The record in the bytes; a byte past the end counts as 0.
+// The record in the bytes; a number whose bytes are not all there counts as 0.
 pub fn read(record: &[u8]) -> Message
     ensures { λ r. ⌜ r ≡ messageIn (now («record» .entry)) ⌝ }
 {

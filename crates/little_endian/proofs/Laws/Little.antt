@@ -113,3 +113,8 @@ writes-back (suc n) at s h small =
     let first : (b + 256 * v) % 256 ≡ b = omega (arith, small at) in
     let i : at + 1 ≡ suc at = omega arith in
     rw (rest, first, writes-back n (at + 1) s (omega arith) small, i, drop-cons s at 0 (omega arith))
+
+-- a number that is not there is as small as one that is
+pub power-positive : (n : ℕ) → 0 < 256 ^ n
+power-positive zero = omega arith
+power-positive (suc n) = omega (arith, power-positive n)

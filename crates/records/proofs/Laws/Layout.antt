@@ -14,7 +14,7 @@ use Rattle.wire.specs.Splice.{splice}
 use Rattle.wire.proofs.Laws.Splice.{length-splice, splice-none, splice-next, in-part}
 use Rattle.wire.proofs.Laws.Bool.{by-test}
 use Rattle.records.specs.Layout.{flag, isSet, laid}
-use Rattle.little_endian.specs.Little.{number, bytes, written}
+use Rattle.little_endian.specs.Little.{numberAt, bytes, written}
 use Rattle.little_endian.proofs.Laws.Little.{number-same, number-bytes, length-bytes}
 
 -- ys is xs with ds laid in the places from `at` to `to`
@@ -86,6 +86,7 @@ flag-back false = refl
 pub record Begins (to : ℕ) (ds s : List ℕ) : Type 0 where
   pub same : (k : ℕ) → k < length ds → getD s k 0 ≡ getD ds k 0
   pub end : length ds ≡ to
+  pub within : to ≤ length s
 
 -- bytes begin with the record that is laid over them
 pub laid-begins : (to : ℕ) (ds xs : List ℕ) → length ds ≡ to → to ≤ length xs → Begins to ds (laid ds xs)
@@ -95,6 +96,7 @@ laid-begins to ds xs e h =
           let i : k - 0 ≡ k = omega arith in
           rw (laid-fits ds xs (omega arith)) (in-part 0 ds xs (omega arith) k (omega arith) (omega arith) ∙ ap (λ (m : ℕ). getD ds m 0) i);
       end = e;
+      within = rw (length-laid ds xs) h;
     }
 
 module _ (at : ℕ) (ds : List ℕ) {s : List ℕ} where
@@ -103,24 +105,27 @@ module _ (at : ℕ) (ds : List ℕ) {s : List ℕ} where
   before-part n es e b =
       let l : length (ds ++ es) ≡ length ds + length es = length-append ds es in
       let d = b .end in
-      record { same = λ k h. b .same k (omega arith) ∙ List·getD-append ds es 0 k h; end = omega arith }
+      let w = b .within in
+      record { same = λ k h. b .same k (omega arith) ∙ List·getD-append ds es 0 k h; end = omega arith; within = omega arith }
 
   pub before : (n v : ℕ) → Begins (at + n) (ds ++ bytes n v) s → Begins at ds s
   before n v b = before-part n (bytes n v) (length-bytes n v) b
 
   -- the number in the last n bytes
-  pub number-in : (n v : ℕ) → v < 256 ^ n → Begins (at + n) (ds ++ bytes n v) s → number n s at ≡ v
+  pub number-in : (n v : ℕ) → v < 256 ^ n → Begins (at + n) (ds ++ bytes n v) s → numberAt n s at ≡ v
+  unfolding numberAt
   number-in n v small b =
       let l : length (ds ++ bytes n v) ≡ length ds + length (bytes n v) = length-append ds (bytes n v) in
       let m : length (bytes n v) ≡ n = length-bytes n v in
       let d = b .end in
-      number-same n s (bytes n v) at 0
+      simp (le-leb (at + n) (length s) (b .within))
+      (number-same n s (bytes n v) at 0
       (λ k h.
       let i : at + k ≡ length ds + k = omega arith in
       let j : 0 + k ≡ k = omega arith in
       rw (i, j) (b .same (length ds + k) (omega arith) ∙ getD-append-add ds (bytes n v) k 0))
-      ∙ number-bytes n v small
+      ∙ number-bytes n v small)
 
   -- the flag in the last byte
-  pub flag-in : (f : Bool) → Begins (at + 1) (ds ++ bytes 1 (flag f)) s → isSet (number 1 s at) ≡ f
+  pub flag-in : (f : Bool) → Begins (at + 1) (ds ++ bytes 1 (flag f)) s → isSet (numberAt 1 s at) ≡ f
   flag-in f b = ap isSet (number-in 1 (flag f) (flag-small f) b) ∙ flag-back f
