@@ -27,13 +27,13 @@ fn copy_through(to: &mut [u8], from: &[u8], block: &mut [u8])
     copy_bytes(to, &block[0..n]);
 }
 
-// The same for at most 4096 bytes, by way of a block of its own. What is lent could overlap, a block of its own can't: so the compiler makes
+// The same for at most 65536 bytes, by way of a block of its own. What is lent could overlap, a block of its own can't: so the compiler makes
 // one move of memory of the two copies, and no block.
 fn copy_few(to: &mut [u8], from: &[u8])
-    requires { ⌜ (length (now to) ≡ length (now from)) × (length (now from) ≤ 4096) ⌝ }
+    requires { ⌜ (length (now to) ≡ length (now from)) × (length (now from) ≤ 65536) ⌝ }
     ensures { λ _. ⌜ now (to .exit) ≡ now (from .entry) ⌝ }
 {
-    let mut block = [0u8; 4096];
+    let mut block = [0u8; 65536];
     copy_through(to, from, &mut block);
 }
 
@@ -44,7 +44,7 @@ pub fn copy(to: &mut [u8], from: &[u8])
     let n = least_length(to.len(), from.len());
     let mut k = 0;
     while k < n {
-        let end = k + least_length(4096, n - k);
+        let end = k + least_length(65536, n - k);
         copy_few(&mut to[k..end], &from[k..end]);
         k = end;
     }

@@ -24,12 +24,12 @@ abbrev μ-loop : tie.MeasureT-loop
 bounds : (a b n : ℕ) → n ≡ lesser a b → (n ≤ a) × (n ≤ b)
 bounds a b n e = rw e (lesser-le a b)
 
--- the next bytes: some, 4096 at most, and none past the last
-next : (n k size : ℕ) → k < n → size ≡ lesser 4096 (n - k) → (0 < size) × (size ≤ 4096) × (k + size ≤ n)
+-- the next bytes: some, 65536 at most, and none past the last
+next : (n k size : ℕ) → k < n → size ≡ lesser 65536 (n - k) → (0 < size) × (size ≤ 65536) × (k + size ≤ n)
 next n k size l e =
-    elim (decLt 4096 (n - k)) [
-      | yes h ↦ let f : size ≡ 4096 = e ∙ lesser-first 4096 (n - k) (omega arith) in (omega arith, omega arith, omega arith)
-      | no h ↦ let f : size ≡ n - k = e ∙ lesser-second 4096 (n - k) (omega arith) in (omega arith, omega arith, omega arith)
+    elim (decLt 65536 (n - k)) [
+      | yes h ↦ let f : size ≡ 65536 = e ∙ lesser-first 65536 (n - k) (omega arith) in (omega arith, omega arith, omega arith)
+      | no h ↦ let f : size ≡ n - k = e ∙ lesser-second 65536 (n - k) (omega arith) in (omega arith, omega arith, omega arith)
     ]
 
 least-length-requires : tie.Need-least-length-requires Inv-loop μ-loop
