@@ -29,8 +29,8 @@ written n v at xs = cond (leb (at + n) (length xs)) (splice at (bytes n v) xs) x
 
 -- what is written reads back
 abbrev pub ReadsBack : Type 0
-ReadsBack = (n v at : ℕ) (xs : List ℕ) → at + n ≤ length xs → v < 256 ^ n → number n (written n v at xs) at ≡ v
+ReadsBack = (n v at : ℕ) (xs : List ℕ) → at + n ≤ length xs → v < 256 ^ n → numberAt n (written n v at xs) at ≡ v
 
 -- what was read from bytes is written as those bytes
 abbrev pub WritesBack : Type 0
-WritesBack = (n at : ℕ) (s : List ℕ) → at + n ≤ length s → ((k : ℕ) → getD s k 0 < 256) → bytes n (number n s at) ≡ take n (drop at s)
+WritesBack = (n at : ℕ) (s : List ℕ) → at + n ≤ length s → ((k : ℕ) → getD s k 0 < 256) → bytes n (numberAt n s at) ≡ take n (drop at s)

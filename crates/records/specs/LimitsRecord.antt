@@ -34,9 +34,9 @@ limitsIn xs =
     (value.Supported (record { xor = xorOf (numberAt 1 xs 1); width = numberAt 2 xs 2; height = numberAt 2 xs 4; port = numberAt 2 xs 6 }))
 
 -- What is written reads back, where each number is below 65,536. The proof stands in proofs/Laws/LimitsRecord.antt.
-abbrev pub Held : Value → Type 0
-Held value.NotSupported = Unit {0}
-Held (value.Supported l) = (l .width < 65536) × (l .height < 65536) × (l .port < 65536)
+abbrev pub Fits : Value → Type 0
+Fits value.NotSupported = Unit {0}
+Fits (value.Supported l) = (l .width < 65536) × (l .height < 65536) × (l .port < 65536)
 
 abbrev pub LimitsBack : Type 0
-LimitsBack = (v : Value) (xs : List ℕ) → 8 ≤ length xs → Held v → limitsIn (laid (limitsBytes v) xs) ≡ v
+LimitsBack = (v : Value) (xs : List ℕ) → 8 ≤ length xs → Fits v → limitsIn (laid (limitsBytes v) xs) ≡ v

@@ -47,13 +47,13 @@ messageIn xs =
 -- What is written reads back. The proofs stand in proofs/Laws/MessageRecord.antt.
 
 -- place and length are below 2^32
-abbrev pub Held : Field → Type 0
-Held f = (f .at < 256 ^ 4) × (f .len < 256 ^ 4)
+abbrev pub Fits : Field → Type 0
+Fits f = (f .at < 256 ^ 4) × (f .len < 256 ^ 4)
 
 -- any record whose places and lengths are
 abbrev pub MessageBack : Type 0
 MessageBack =
-    (m : Message) (xs : List ℕ) → 64 ≤ length xs → m .command < 256 → ((t : ℕ) → Held (fieldOf m t))
+    (m : Message) (xs : List ℕ) → 64 ≤ length xs → m .command < 256 → ((t : ℕ) → Fits (fieldOf m t))
     → messageIn (laid (messageBytes m) xs) ≡ m
 
 -- so the record of every accepted message

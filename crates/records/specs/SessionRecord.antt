@@ -2,8 +2,10 @@
 use Prim.Native.Nat.{ℕ, _≤_, _<_}
 use mathlib.Core.Path.{_≡_}
 use mathlib.Core.List.{List, [], _∷_, _++_}
+use mathlib.Core.Bool.{Bool}
 use lib.ListN.{length, getD, drop, replicate}
 use Rattle.scan.specs.Bytes.{copied}
+use Rattle.message.specs.declared.accessors.SourceId.{SourceId}
 use Rattle.session.specs.declared.record.State.{State}
 use Rattle.session.specs.declared.record.State.the-variants as state
 use Rattle.session.specs.declared.record.Session.{Session}
@@ -26,6 +28,10 @@ stateNumber state.Closed = 5
 unfoldable pub idAt : ℕ → List ℕ → List ℕ
 idAt at xs = copied (drop at xs) (replicate 16 0)
 
+-- a Source ID with these, and whether there is one
+abbrev pub sourceAt : Bool → ℕ → List ℕ → SourceId
+sourceAt present at xs = record { present = present; bytes = idAt at xs }
+
 -- its bytes
 unfoldable pub sessionBytes : Session → List ℕ
 sessionBytes s = bytes 1 (stateNumber (s .state)) ++ bytes 1 (s .options) ++ bytes 1 (flag (s .source .present)) ++ s .source .bytes
@@ -36,7 +42,7 @@ sessionOf xs =
     record {
       state = stateOf (numberAt 1 xs 0);
       options = numberAt 1 xs 1;
-      source = record { present = isSet (numberAt 1 xs 2); bytes = idAt 3 xs };
+      source = sourceAt (isSet (numberAt 1 xs 2)) 3 xs;
     }
 
 -- What is written reads back, where the options are one byte and the Source ID has its 16. The proof stands in

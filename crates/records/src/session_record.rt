@@ -10,7 +10,7 @@ ghost use Prim.Native.Nat.{_≤_};
 ghost use lib.ListN.{length};
 ghost use Rattle.wire.specs.Splice.{splice};
 ghost use Rattle.records.specs.Layout.{laid};
-ghost use Rattle.records.specs.SessionRecord.{stateOf, stateNumber, idAt, sessionBytes, sessionOf};
+ghost use Rattle.records.specs.SessionRecord.{stateOf, stateNumber, idAt, sourceAt, sessionBytes, sessionOf};
 use little_endian::put_u8;
 use little_endian::u8_at;
 use message::accessors::SourceId;
@@ -49,7 +49,7 @@ pub fn number_of(state: State) -> u8
 }
 
 // The 16 bytes of a Source ID from a place on; a byte past the end counts as 0.
-pub fn id_at(bytes: &[u8], at: usize) -> [u8; 16]
+fn id_at(bytes: &[u8], at: usize) -> [u8; 16]
     ensures { λ r. ⌜ r ≡ idAt at (now (bytes .entry)) ⌝ }
 {
     let mut id = [0u8; 16];
@@ -57,6 +57,16 @@ pub fn id_at(bytes: &[u8], at: usize) -> [u8; 16]
         bytes::copy(&mut id, &bytes[at..]);
     }
     id
+}
+
+// A Source ID from a place on, and whether there is one.
+pub fn source_at(present: bool, bytes: &[u8], at: usize) -> SourceId
+    ensures { λ r. ⌜ r ≡ sourceAt present at (now (bytes .entry)) ⌝ }
+{
+    SourceId {
+        present,
+        bytes: id_at(bytes, at),
+    }
 }
 
 // Copies a Source ID to the 16 places from 3 on.
@@ -74,10 +84,7 @@ pub fn read(record: &[u8]) -> Session
     Session {
         state: state_of(u8_at(record, 0)),
         options: u8_at(record, 1),
-        source: SourceId {
-            present: u8_at(record, 2) != 0,
-            bytes: id_at(record, 3),
-        },
+        source: source_at(u8_at(record, 2) != 0, record, 3),
     }
 }
 

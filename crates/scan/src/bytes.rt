@@ -29,7 +29,7 @@ fn copy_through(to: &mut [u8], from: &[u8], block: &mut [u8])
 
 // The same for at most 65536 bytes, by way of a block of its own. What is lent could overlap, a block of its own can't: so the compiler makes
 // one move of memory of the two copies, and no block.
-fn copy_few(to: &mut [u8], from: &[u8])
+fn copy_by_block(to: &mut [u8], from: &[u8])
     requires { ⌜ (length (now to) ≡ length (now from)) × (length (now from) ≤ 65536) ⌝ }
     ensures { λ _. ⌜ now (to .exit) ≡ now (from .entry) ⌝ }
 {
@@ -45,7 +45,7 @@ pub fn copy(to: &mut [u8], from: &[u8])
     let mut k = 0;
     while k < n {
         let end = k + least_length(65536, n - k);
-        copy_few(&mut to[k..end], &from[k..end]);
+        copy_by_block(&mut to[k..end], &from[k..end]);
         k = end;
     }
 }

@@ -14,7 +14,7 @@ use Rattle.session.specs.declared.step.Stepped.{Stepped}
 use Rattle.session.specs.Step.{stepOf}
 use Rattle.session.specs.Message.{onMessage}
 use Rattle.records.specs.Layout.{laid}
-use Rattle.records.specs.SessionRecord.{idAt, stateNumber, sessionBytes, sessionOf}
+use Rattle.records.specs.SessionRecord.{sourceAt, stateNumber, sessionBytes, sessionOf}
 use Rattle.answers.specs.declared.Step.{Step}
 
 -- an answer, with what the lent record then holds
@@ -49,7 +49,7 @@ leftBy s xs = left (stateNumber (sessionOf xs .state)) s xs
 
 -- a lent Source ID: no bytes where there is none, else its first 16
 unfoldable pub sourceIn : List ℕ → SourceId
-sourceIn xs = record { present = not (eqb (length xs) 0); bytes = idAt 0 xs }
+sourceIn xs = sourceAt (not (eqb (length xs) 0)) 0 xs
 
 -- the record has its 19 bytes, and the lent Source ID none or its 16
 unfoldable pub taken : ℕ → List ℕ → Bool

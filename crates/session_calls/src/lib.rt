@@ -75,10 +75,7 @@ fn leave(record: &mut [u8], before: u8, stepped: Stepped) -> Step
 fn source_of(bytes: &[u8]) -> SourceId
     ensures { λ r. ⌜ r ≡ sourceIn (now (bytes .entry)) ⌝ }
 {
-    SourceId {
-        present: bytes.len() != 0,
-        bytes: session_record::id_at(bytes, 0),
-    }
+    session_record::source_at(bytes.len() != 0, bytes, 0)
 }
 
 // Whether a record of so many bytes has all of its own, and `source` is a Source ID or none.

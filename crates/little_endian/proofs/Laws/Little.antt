@@ -3,13 +3,13 @@ use Prim.Native.Nat.{ℕ, zero, suc, _+_, _-_, _*_, _/_, _%_, _^_, _≤_, _<_}
 use mathlib.Core.Path.{_≡_, refl, sym, ap, _∙_}
 use mathlib.Core.List.{List, [], _∷_}
 use native.Mathlib.Omega.{arith}
-use lib.ListN.{length, getD, set}
+use lib.ListN.{length, getD, set, take, drop}
 use lib.Seq.{drop-cons}
 use borrow.Author.Tests.{le-leb}
 use Rattle.wire.specs.Splice.{splice}
-use Rattle.wire.proofs.Laws.Splice.{splice-none, splice-snoc, splice-next, in-part}
+use Rattle.wire.proofs.Laws.Splice.{length-splice, splice-none, splice-snoc, splice-next, in-part}
 use Rattle.wire.proofs.Laws.Number.{next-small, next-fits}
-use Rattle.little_endian.specs.Little.{number, bytes, written, ReadsBack, WritesBack}
+use Rattle.little_endian.specs.Little.{number, numberAt, bytes, written, ReadsBack, WritesBack}
 
 -- reading looks at the n bytes alone
 pub number-same
@@ -91,28 +91,38 @@ number-bytes (suc n) v h =
     rw (rest, number-bytes n (v / 256) (omega arith)) (omega arith)
 
 -- what is written reads back
+-- where its bytes are there, a number is read from them
+pub there : (n at : ℕ) (s : List ℕ) → at + n ≤ length s → numberAt n s at ≡ number n s at
+unfolding numberAt
+there n at s h = simp (le-leb (at + n) (length s) h)
+
 pub reads-back : ReadsBack
 unfolding written
 reads-back n v at xs h small =
     let e : length (bytes n v) ≡ n = length-bytes n v in
+    let l : length (splice at (bytes n v) xs) ≡ length xs = length-splice at (bytes n v) xs (omega arith) in
     simp (le-leb (at + n) (length xs) h)
-    (number-same n (splice at (bytes n v) xs) (bytes n v) at 0
+    (there n at (splice at (bytes n v) xs) (omega arith) ∙
+    number-same n (splice at (bytes n v) xs) (bytes n v) at 0
     (λ k l.
     let i : at + k - at ≡ 0 + k = omega arith in
     in-part at (bytes n v) xs (omega arith) (at + k) (omega arith) (omega arith) ∙ ap (λ (m : ℕ). getD (bytes n v) m 0) i)
     ∙ number-bytes n v small)
 
 -- what was read writes back, where every element is a byte
-pub writes-back : WritesBack
+number-back : (n at : ℕ) (s : List ℕ) → at + n ≤ length s → ((k : ℕ) → getD s k 0 < 256) → bytes n (number n s at) ≡ take n (drop at s)
 unfolding bytes number
-writes-back zero at s h small = refl
-writes-back (suc n) at s h small =
+number-back zero at s h small = refl
+number-back (suc n) at s h small =
     let b = getD s at 0 in
     let v = number n s (at + 1) in
     let rest : (b + 256 * v) / 256 ≡ v = omega (arith, small at) in
     let first : (b + 256 * v) % 256 ≡ b = omega (arith, small at) in
     let i : at + 1 ≡ suc at = omega arith in
-    rw (rest, first, writes-back n (at + 1) s (omega arith) small, i, drop-cons s at 0 (omega arith))
+    rw (rest, first, number-back n (at + 1) s (omega arith) small, i, drop-cons s at 0 (omega arith))
+
+pub writes-back : WritesBack
+writes-back n at s h small = ap (bytes n) (there n at s h) ∙ number-back n at s h small
 
 -- a number that is not there is as small as one that is
 pub power-positive : (n : ℕ) → 0 < 256 ^ n

@@ -1,24 +1,20 @@
 -- Where a test finds too few bytes the definition gives 0, else what the bytes have. Assumes nothing.
-use Prim.Native.Nat.{ℕ, _+_, _^_, _≤_, _<_}
-use mathlib.Core.Path.{_≡_, _∙_}
+use Prim.Native.Nat.{ℕ, _+_, _^_, _<_}
+use mathlib.Core.Path.{_≡_, sym, _∙_}
 use mathlib.Core.List.{List}
 use native.Mathlib.Omega.{arith}
 use borrow.Author.Needs.{needs}
-use borrow.Author.Tests.{le-leb, lt-leb}
+use borrow.Author.Tests.{lt-leb}
 use denote.Ref.{now}
 use lib.ListN.{length}
-use Rattle.little_endian.specs.Little.{number, numberAt}
-use Rattle.little_endian.proofs.Laws.Little.{power-positive}
+use Rattle.little_endian.specs.Little.{numberAt}
+use Rattle.little_endian.proofs.Laws.Little.{there, power-positive}
 use Rattle.little_endian.proofs.read.Statement.{statement}
 use Rattle.little_endian.proofs.read.Tie as tie
 
 missing : (n at : ℕ) (s : List ℕ) → length s < at + n → (0 ≡ numberAt n s at) × (0 < 256 ^ n)
 unfolding numberAt
 missing n at s h = (simp (lt-leb (at + n) (length s) h), power-positive n)
-
-there : (n at v : ℕ) (s : List ℕ) → at + n ≤ length s → (v ≡ number n s at) × (v < 256 ^ n) → (v ≡ numberAt n s at) × (v < 256 ^ n)
-unfolding numberAt
-there n at v s h e = (simp (le-leb (at + n) (length s) h) (e .0), e .1)
 
 returns : tie.Need-returns
 returns c =
@@ -39,7 +35,7 @@ whole-requires c κs = search needs
 returns-3 : tie.Need-returns-3
 returns-3 c =
     let a = c .before .before .before .before .args in
-    there (a .n) (a .at) _ (now (a .s)) (omega arith) (c .whole .ensures)
+    (c .whole .ensures .0 ∙ sym (there (a .n) (a .at) (now (a .s)) (omega arith)), c .whole .ensures .1)
 
 pub read-spec : {M : Type 1} → statement M
 read-spec = tie.close (tie.spec returns sub-if2 returns-2 whole-requires returns-3)

@@ -21,7 +21,7 @@ use Rattle.message.proofs.Laws.Rules.{type-small, type-not-1}
 use Rattle.message.proofs.Laws.WellFormed.{sound}
 use Rattle.records.specs.Layout.{flag, laid}
 use Rattle.little_endian.specs.Little.{bytes, written}
-use Rattle.records.specs.MessageRecord.{fieldBytes, fieldIn, messageBytes, messageIn, Held, MessageBack, AcceptedBack}
+use Rattle.records.specs.MessageRecord.{fieldBytes, fieldIn, messageBytes, messageIn, Fits, MessageBack, AcceptedBack}
 use Rattle.records.proofs.Laws.Layout.{nothing, next, next-part, whole, Begins, laid-begins, before-part, before, number-in, flag-in}
 use Rattle.little_endian.proofs.Laws.Little.{length-bytes}
 
@@ -69,7 +69,7 @@ module _ (at : ℕ) (ds : List ℕ) (f : Field) {s : List ℕ} (b : Begins (at +
   before-field : Begins at ds s
   before-field = before-part at ds 9 (fieldBytes f) (length-field f) b
 
-  field-in : Held f → fieldIn s at ≡ f
+  field-in : Fits f → fieldIn s at ≡ f
   unfolding fieldBytes fieldIn
   field-in held =
       let p = bytes 1 (flag (f .present)) in

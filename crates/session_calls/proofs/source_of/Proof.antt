@@ -1,15 +1,15 @@
--- The bytes are those from place 0. Assumes nothing.
+-- The Source ID from place 0. Assumes nothing.
 use Rattle.session_calls.specs.SessionCalls.{sourceIn}
 use borrow.Author.Needs.{needs}
 use Rattle.session_calls.proofs.source_of.Statement.{statement}
 use Rattle.session_calls.proofs.source_of.Tie as tie
 
-id-at-requires : tie.Need-id-at-requires
-id-at-requires c κs = search needs
+source-at-requires : tie.Need-source-at-requires
+source-at-requires c κs = search needs
 
 returns : tie.Need-returns
 unfolding sourceIn
-returns c = rw (c .id-at .ensures)
+returns c = rw (c .source-at .ensures)
 
 pub source-of-spec : {M : Type 1} → statement M
-source-of-spec = tie.close (tie.spec id-at-requires returns)
+source-of-spec = tie.close (tie.spec source-at-requires returns)

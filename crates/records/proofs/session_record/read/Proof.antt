@@ -16,8 +16,8 @@ u8-at-requires-2 c κs = search needs
 u8-at-requires-3 : tie.Need-u8-at-requires-3
 u8-at-requires-3 c κs = search needs
 
-id-at-requires : tie.Need-id-at-requires
-id-at-requires c κs = search needs
+source-at-requires : tie.Need-source-at-requires
+source-at-requires c κs = search needs
 
 returns : tie.Need-returns
 unfolding sessionOf
@@ -25,7 +25,7 @@ returns c =
     let p = c .before in
     let o = p .before in
     let s = o .before in
-    rw (c .id-at .ensures, p .u8-at3 .ensures, o .u8-at2 .ensures, s .state-of .ensures, s .before .u8-at .ensures)
+    rw (c .source-at .ensures, p .u8-at3 .ensures, o .u8-at2 .ensures, s .state-of .ensures, s .before .u8-at .ensures)
 
 pub read-spec : {M : Type 1} → statement M
 read-spec =
@@ -35,5 +35,5 @@ read-spec =
     state-of-requires
     u8-at-requires-2
     u8-at-requires-3
-    id-at-requires
+    source-at-requires
     returns)

@@ -49,30 +49,30 @@ add-end c =
     let s = next _ _ _ (c .before .loop-test .taken) (c .least-length2 .ensures) in
     omega arith
 
-sub-copy-few : tie.Need-sub-copy-few Inv-loop μ-loop
-sub-copy-few c = omega arith
+sub-copy-by-block : tie.Need-sub-copy-by-block Inv-loop μ-loop
+sub-copy-by-block c = omega arith
 
-part-copy-few-start : tie.Need-part-copy-few-start Inv-loop μ-loop
-part-copy-few-start c = omega arith
+part-copy-by-block-start : tie.Need-part-copy-by-block-start Inv-loop μ-loop
+part-copy-by-block-start c = omega arith
 
-part-copy-few-end : tie.Need-part-copy-few-end Inv-loop μ-loop
-part-copy-few-end c =
+part-copy-by-block-end : tie.Need-part-copy-by-block-end Inv-loop μ-loop
+part-copy-by-block-end c =
     let s = next _ _ _ (c .before .loop-test .taken) (c .least-length2 .ensures) in
     omega arith
 
-sub-copy-few-2 : tie.Need-sub-copy-few-2 Inv-loop μ-loop
-sub-copy-few-2 c = omega arith
+sub-copy-by-block-2 : tie.Need-sub-copy-by-block-2 Inv-loop μ-loop
+sub-copy-by-block-2 c = omega arith
 
-part-copy-few-start-2 : tie.Need-part-copy-few-start-2 Inv-loop μ-loop
-part-copy-few-start-2 c = omega arith
+part-copy-by-block-start-2 : tie.Need-part-copy-by-block-start-2 Inv-loop μ-loop
+part-copy-by-block-start-2 c = omega arith
 
-part-copy-few-end-2 : tie.Need-part-copy-few-end-2 Inv-loop μ-loop
-part-copy-few-end-2 c =
+part-copy-by-block-end-2 : tie.Need-part-copy-by-block-end-2 Inv-loop μ-loop
+part-copy-by-block-end-2 c =
     let s = next _ _ _ (c .before .before .loop-test .taken) (c .before .least-length2 .ensures) in
     omega arith
 
-copy-few-requires : tie.Need-copy-few-requires Inv-loop μ-loop
-copy-few-requires c κs =
+copy-by-block-requires : tie.Need-copy-by-block-requires Inv-loop μ-loop
+copy-by-block-requires c κs =
     let k = c .before .before .before .before .loop in
     let a = c .before .before .before .before .before .before .before .before .args in
     let s = next _ _ _ (c .before .before .before .loop-test .taken) (c .before .before .least-length2 .ensures) in
@@ -98,8 +98,8 @@ loop-again c =
     let f = part-length (l .k) size (now (a .from)) (omega arith) in (
       s .2,
       l .inv .1,
-      same-len-mid (l .k) (l .k + size - l .k) (l .to) (w .copy-few .last .0) (ap length (w .copy-few .ensures) ∙ f ∙ sym t) ∙ l .inv .2,
-      rw (w .copy-few .ensures, l .inv .3) (copy-part (l .k) (l .k + size) (now (a .from)) (now (a .to)) (omega arith) (omega arith) (omega arith)),
+      same-len-mid (l .k) (l .k + size - l .k) (l .to) (w .copy-by-block .last .0) (ap length (w .copy-by-block .ensures) ∙ f ∙ sym t) ∙ l .inv .2,
+      rw (w .copy-by-block .ensures, l .inv .3) (copy-part (l .k) (l .k + size) (now (a .from)) (now (a .to)) (omega arith) (omega arith) (omega arith)),
     )
 
 same-length : tie.Need-same-length Inv-loop μ-loop
@@ -124,13 +124,13 @@ copy-spec =
     sub-least-length
     least-length-requires-2
     add-end
-    sub-copy-few
-    part-copy-few-start
-    part-copy-few-end
-    sub-copy-few-2
-    part-copy-few-start-2
-    part-copy-few-end-2
-    copy-few-requires
+    sub-copy-by-block
+    part-copy-by-block-start
+    part-copy-by-block-end
+    sub-copy-by-block-2
+    part-copy-by-block-start-2
+    part-copy-by-block-end-2
+    copy-by-block-requires
     loop-less
     loop-again
     same-length
