@@ -2,7 +2,6 @@
 ghost use mathlib.Core.Path.{_≡_};
 ghost use Rattle.cursor.specs.Pointer.{freshPointer, movedTo, movedBy, positioned};
 use packet::position;
-use packet::position::PositionAnswer;
 use wire::sequence;
 use wire::status;
 use wire::status::Status;
@@ -59,23 +58,23 @@ pub(crate) fn moved(pointer: Pointer, sequence: u16, x: i16, y: i16) -> Pointer
 pub fn take(pointer: Pointer, packet: &[u8]) -> Positioned
     ensures { λ r. ⌜ r ≡ movedBy pointer (now (packet .entry)) ⌝ }
 {
-    match position::read(packet) {
-        PositionAnswer::Refused { status, place } => Positioned {
+    let status = position::check(packet);
+    if status::number(status) != 0 {
+        return Positioned {
             status: status,
             pointer: pointer,
-        },
-        PositionAnswer::Accepted(position) => {
-            if sequence::newer(pointer.known, pointer.sequence, position.sequence) {
-                Positioned {
-                    status: Status::Accepted,
-                    pointer: moved(pointer, position.sequence, position.x, position.y),
-                }
-            } else {
-                Positioned {
-                    status: Status::NotNewer,
-                    pointer: pointer,
-                }
-            }
+        };
+    }
+    let position = position::fields(packet);
+    if sequence::newer(pointer.known, pointer.sequence, position.sequence) {
+        Positioned {
+            status: Status::Accepted,
+            pointer: moved(pointer, position.sequence, position.x, position.y),
+        }
+    } else {
+        Positioned {
+            status: Status::NotNewer,
+            pointer: pointer,
         }
     }
 }

@@ -3,7 +3,9 @@ ghost use mathlib.Core.Path.{_≡_};
 ghost use Prim.Native.Nat.{_+_, _≤_};
 ghost use lib.ListN.{length, replicate};
 ghost use Rattle.wire.specs.Splice.{splice};
-ghost use Rattle.cursor.specs.Storing.{after, openedBy, openedFor, clearedFor, withStart, pointerAfter, taken, stored};
+ghost use Rattle.packet.specs.Fragment.{fragmentOf};
+ghost use Rattle.cursor.specs.Storing.{after, openedBy, openedFor, clearedFor, withStart, pointerAfter, stored};
+ghost use Rattle.cursor.specs.Assembling.{left, fragmentAssembled, assembled};
 use super::judging;
 use super::picture;
 use super::picture::Picture;
@@ -11,11 +13,17 @@ use super::pointer;
 use super::pointer::Pointer;
 use packet::fragment;
 use packet::fragment::Fragment;
-use packet::fragment::FragmentAnswer;
+use packet::start;
 use packet::start::Start;
 use scan::bytes;
 use wire::status;
 use wire::status::Status;
+
+// The status, and the picture's record afterwards. A struct, since the variants of an enum share bytes.
+pub struct Assembled {
+    pub status: Status,
+    pub picture: Picture,
+}
 
 // The records as the fragment leaves them, or a refusal, which changes nothing.
 pub enum StoreAnswer {
@@ -84,38 +92,65 @@ fn with_start(picture: Picture, fragment: Fragment) -> Picture
     picture
 }
 
-// The pointer after a fragment: moved by a newer start.
-fn moved_by(pointer: Pointer, fragment: Fragment) -> Pointer
-    ensures { λ r. ⌜ r ≡ pointerAfter pointer fragment ⌝ }
-{
-    if fragment.starts {
-        return pointer::moved(pointer, fragment.sequence, fragment.x, fragment.y);
-    }
-    pointer
-}
-
 // Judges a fragment, and stores it if it is accepted.
 fn take(
-    pointer: Pointer,
     picture: Picture,
     fragment: Fragment,
     data: &[u8],
     image: &mut [u8],
     marks: &mut [u8],
-) -> StoreAnswer
+) -> Assembled
     requires { ⌜ fragment .offset + length (now «data») ≤ fragment .total ⌝ }
-    ensures { λ r. ⌜ after r (now (image .exit)) (now (marks .exit)) ≡ taken pointer picture fragment (now («data» .entry)) (now (image .entry)) (now (marks .entry)) ⌝ }
+    ensures { λ r. ⌜ left r (now (image .exit)) (now (marks .exit)) ≡ fragmentAssembled picture fragment (now («data» .entry)) (now (image .entry)) (now (marks .entry)) ⌝ }
 {
-    let status = judging::judge(picture, fragment, data, image, marks);
-    if status::number(status) != 0 {
-        return StoreAnswer::Refused {
-            status: status,
-            place: 0,
+    let judged = judging::judge(picture, fragment, data, image, marks);
+    if status::number(judged) != 0 {
+        return Assembled {
+            status: judged,
+            picture: picture,
         };
     }
     let opened = open_for(picture, fragment, marks);
     put(fragment.offset, data, image, marks);
-    StoreAnswer::Accepted(with_start(opened, fragment), moved_by(pointer, fragment))
+    Assembled {
+        status: judged,
+        picture: with_start(opened, fragment),
+    }
+}
+
+// The call for starts and continuations as far as the picture goes: the first refusal in 01's order, which changes nothing, or Accepted, with
+// the record of the picture as the fragment leaves it.
+pub fn assemble(picture: Picture, packet: &[u8], image: &mut [u8], marks: &mut [u8]) -> Assembled
+    ensures { λ r. ⌜ left r (now (image .exit)) (now (marks .exit)) ≡ assembled picture (now (packet .entry)) (now (image .entry)) (now (marks .entry)) ⌝ }
+{
+    if !picture::is_held(picture, image.len(), marks.len()) {
+        return Assembled {
+            status: Status::ImageNotHeld,
+            picture: picture,
+        };
+    }
+    let parsed = fragment::parse(packet);
+    let status = parsed.status;
+    let fragment = parsed.fragment;
+    if status::number(status) != 0 {
+        return Assembled {
+            status: status,
+            picture: picture,
+        };
+    }
+    let data = fragment::image_data(packet, fragment.starts);
+    take(picture, fragment, data, image, marks)
+}
+
+// The pointer after an accepted packet: moved by a newer start.
+pub fn moved_by(pointer: Pointer, packet: &[u8]) -> Pointer
+    ensures { λ r. ⌜ r ≡ pointerAfter pointer (fragmentOf (now (packet .entry))) ⌝ }
+{
+    if fragment::is_start(packet) {
+        let position = start::position(packet);
+        return pointer::moved(pointer, position.sequence, position.x, position.y);
+    }
+    pointer
 }
 
 // The call for starts and continuations: takes types 2 and 3 only. The answer is the records as the fragment leaves them, or the first
@@ -129,20 +164,14 @@ pub fn store(
 ) -> StoreAnswer
     ensures { λ r. ⌜ after r (now (image .exit)) (now (marks .exit)) ≡ stored pointer picture (now (packet .entry)) (now (image .entry)) (now (marks .entry)) ⌝ }
 {
-    if !picture::is_held(picture, image.len(), marks.len()) {
+    let assembled = assemble(picture, packet, image, marks);
+    let status = assembled.status;
+    let opened = assembled.picture;
+    if status::number(status) != 0 {
         return StoreAnswer::Refused {
-            status: Status::ImageNotHeld,
+            status: status,
             place: 0,
         };
     }
-    match fragment::read(packet) {
-        FragmentAnswer::Refused { status, place } => StoreAnswer::Refused {
-            status: status,
-            place: place,
-        },
-        FragmentAnswer::Accepted(fragment) => {
-            let data = fragment::image_data(packet, fragment.starts);
-            take(pointer, picture, fragment, data, image, marks)
-        }
-    }
+    StoreAnswer::Accepted(opened, moved_by(pointer, packet))
 }

@@ -15,7 +15,7 @@ use answers::refuse;
 use cursor::completeness::CompleteAnswer;
 use cursor::picture::Picture;
 use cursor::pointer::Pointer;
-use cursor::storing::StoreAnswer;
+use cursor::storing;
 use records::picture_record;
 use records::pointer_record;
 use wire::status;
@@ -66,7 +66,7 @@ fn are_whole(pointer: usize, picture: usize) -> bool
     picture_record::LENGTH <= picture
 }
 
-// The call for starts and continuations.
+// The call for starts and continuations. The pointer's record is read only for a fragment that is accepted.
 pub fn store(
     pointer: &mut [u8],
     picture: &mut [u8],
@@ -79,20 +79,16 @@ pub fn store(
     if !are_whole(pointer.len(), picture.len()) {
         return refuse(Status::NoRoom, 0);
     }
-    match cursor::store(
-        pointer_record::read(pointer),
-        picture_record::read(picture),
-        packet,
-        image,
-        marks,
-    ) {
-        StoreAnswer::Accepted(opened, moved) => {
-            pointer_record::write(pointer, moved);
-            picture_record::write(picture, opened);
-            accept()
-        }
-        StoreAnswer::Refused { status, place } => refuse(status, place),
+    let assembled = storing::assemble(picture_record::read(picture), packet, image, marks);
+    let judged = assembled.status;
+    let opened = assembled.picture;
+    if status::number(judged) != 0 {
+        return refuse(judged, 0);
     }
+    let moved = storing::moved_by(pointer_record::read(pointer), packet);
+    picture_record::write(picture, opened);
+    pointer_record::write(pointer, moved);
+    accept()
 }
 
 // An answer to the completeness question by numbers.

@@ -4,3 +4,4 @@ pub mod Size
 pub mod Reading
 pub mod Checking
 pub mod WellFormed
+pub mod Fields

@@ -2,8 +2,8 @@
 use Prim.Native.Nat.{ℕ, _+_}
 use mathlib.Core.Path.{_≡_}
 use mathlib.Core.List.{List}
-use mathlib.Core.Bool.{Bool, true, false, cond, not}
-use lib.ListN.{length, getD}
+use mathlib.Core.Bool.{Bool, true, cond, not}
+use lib.ListN.{length}
 use lib.Dec.{ltb, eqb}
 use Rattle.wire.specs.declared.status.Status.the-variants as status
 use Rattle.message.specs.declared.record.Message.{Message}
@@ -12,34 +12,34 @@ use Rattle.message.specs.declared.reader.Answer.the-variants as answer
 use Rattle.message.specs.declared.reader.Tlv.{Tlv}
 use Rattle.message.specs.declared.reader.Tlv.the-variants as tlv
 use Rattle.message.specs.declared.reader.Verdict.{Verdict}
-use Rattle.message.specs.Rules.{roleOf, foreign, needed, lengthOk}
-use Rattle.message.specs.Record.{fieldOf, withField}
+use Rattle.message.specs.Rules.{entryOf, foreign, needed, lengthOk}
+use Rattle.message.specs.Record.{withField}
 use Rattle.message.specs.Reading.{typeAt, lengthAt, nextAt, Step}
 use Rattle.message.specs.Reading as step
 
--- the TLV at `at` in a message of command c, but for 7: its type and the length of its value, or what it is refused with
-unfoldable pub tlvOf : List ℕ → ℕ → ℕ → Tlv
-tlvOf s at c =
+-- In a row of the table of roles, for a type that was there.
+abbrev pub seen : ℕ
+seen = 3
+
+-- the TLV at `at`: its type and the length of its value, or what it is refused with; `row` has what each type is to the command, and `seen`
+-- for those of the TLVs before it
+unfoldable pub tlvIn : List ℕ → ℕ → List ℕ → Tlv
+tlvIn s at row =
     cond (ltb (length s) (at + 3)) (tlv.Refused status.TlvTruncated)
     (cond (ltb (length s) (nextAt s at)) (tlv.Refused status.TlvTruncated)
-    (cond (eqb (roleOf c (typeAt s at)) foreign) (tlv.Refused status.TlvUnexpected)
+    (cond (eqb (entryOf row (typeAt s at)) foreign) (tlv.Refused status.TlvUnexpected)
     (cond (not (lengthOk (typeAt s at) (lengthAt s at))) (tlv.Refused status.TlvLength)
-    (tlv.Right (typeAt s at) (lengthAt s at)))))
+    (cond (eqb (entryOf row (typeAt s at)) seen) (tlv.Refused status.TlvRepeated)
+    (tlv.Right (typeAt s at) (lengthAt s at))))))
 
--- what this and the record m of the TLVs before it say of the TLV at `at`: 7 where its type is there already
+-- what this says of the TLV at `at`, m being the record of the TLVs before it
 abbrev pub stepOf : ℕ → Message → Tlv → Step
-stepOf at m (tlv.Right t n) =
-    cond (fieldOf m t .present) (step.Refused status.TlvRepeated at)
-    (step.Known (at + 3 + n) (withField m t (record { present = true; at = at + 3; len = n })))
+stepOf at m (tlv.Right t n) = step.Known (at + 3 + n) (withField m t (record { present = true; at = at + 3; len = n }))
 stepOf at m (tlv.Refused st) = step.Refused st at
 
--- type t is there, if command c needs it
-unfoldable pub thereIfNeeded : ℕ → ℕ → Bool → Bool
-thereIfNeeded c t there = cond (eqb (roleOf c t) needed) there true
-
--- the same, where `seen` has for each type whether it is there
-abbrev pub seenIfNeeded : ℕ → List Bool → ℕ → Bool
-seenIfNeeded c seen t = thereIfNeeded c t (getD seen t false)
+-- type t is not needed, or was there
+abbrev pub notNeeded : List ℕ → ℕ → Bool
+notNeeded row t = not (eqb (entryOf row t) needed)
 
 -- an answer without the record: Accepted and place 0, or the refusal and its place
 abbrev pub verdictOf : Answer → Verdict

@@ -39,12 +39,16 @@ roles =
     -- 6 PIN Response
     (foreign ∷ foreign ∷ foreign ∷ needed ∷ foreign ∷ foreign ∷ needed ∷ needed ∷ []) ∷ []
 
+-- what stands for type t in a row; a type that the table doesn't have is foreign
+abbrev pub entryOf : List ℕ → ℕ → ℕ
+entryOf row t = getD row t foreign
+
 unfoldable pub rolesOf : ℕ → List ℕ
 rolesOf c = getD roles c noRoles
 
 -- what type t is to command c; a type or a command that the table doesn't have is foreign
 unfoldable pub roleOf : ℕ → ℕ → ℕ
-roleOf c t = getD (rolesOf c) t foreign
+roleOf c t = entryOf (rolesOf c) t
 
 unfoldable pub knownCommand : ℕ → Bool
 knownCommand c = leb 1 c && leb c 6

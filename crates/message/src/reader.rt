@@ -4,10 +4,10 @@ ghost use mathlib.Core.Path.{_≡_};
 ghost use Prim.Native.Nat.{_≤_};
 ghost use lib.ListN.{length};
 ghost use Rattle.wire.specs.Below.{allBelow};
-ghost use Rattle.message.specs.declared.reader.Answer.the-variants.{Accepted};
 ghost use Rattle.message.specs.Record.{emptyOf};
 ghost use Rattle.message.specs.Reading.{headerOf, tlvsFrom, readMessage};
-ghost use Rattle.message.specs.Checking.{tlvOf, thereIfNeeded, seenIfNeeded, verdictOf, IsAccepted};
+ghost use Rattle.message.specs.Checking.{tlvIn, notNeeded, verdictOf};
+ghost use Rattle.message.specs.Fields.{fieldsOf};
 use crate::record;
 use crate::record::Field;
 use crate::record::Message;
@@ -35,9 +35,9 @@ enum Tlv {
 }
 
 // What checking gives: Accepted and place 0, or the refusal and its place.
-struct Verdict {
-    status: Status,
-    place: usize,
+pub struct Verdict {
+    pub status: Status,
+    pub place: usize,
 }
 
 // The command of a message, or what its size, version or command is refused with.
@@ -79,10 +79,10 @@ fn read_header(bytes: &[u8]) -> Header
     Header::Command(command)
 }
 
-// The TLV at `at` in a message of this command; whether it is there for the second time is not looked at.
-fn check_tlv(bytes: &[u8], at: usize, command: u8) -> Tlv
+// The TLV at `at`. `row` has what each type is to the command, and SEEN for the types of the TLVs before it.
+fn check_tlv(bytes: &[u8], at: usize, row: &[u8]) -> Tlv
     requires { ⌜ at ≤ length (now bytes) ⌝ }
-    ensures { λ r. ⌜ r ≡ tlvOf (now (bytes .entry)) at command ⌝ }
+    ensures { λ r. ⌜ r ≡ tlvIn (now (bytes .entry)) at (now (row .entry)) ⌝ }
 {
     let left = bytes.len() - at;
     if left < 3 {
@@ -97,7 +97,8 @@ fn check_tlv(bytes: &[u8], at: usize, command: u8) -> Tlv
             status: Status::TlvTruncated,
         };
     }
-    if rules::role(command, kind) == rules::FOREIGN {
+    let entry = rules::entry(row, kind);
+    if entry == rules::FOREIGN {
         return Tlv::Refused {
             status: Status::TlvUnexpected,
         };
@@ -107,27 +108,21 @@ fn check_tlv(bytes: &[u8], at: usize, command: u8) -> Tlv
             status: Status::TlvLength,
         };
     }
+    if entry == rules::SEEN {
+        return Tlv::Refused {
+            status: Status::TlvRepeated,
+        };
+    }
     Tlv::Right { kind, len }
 }
 
-// Whether the TLV of this type is there, if the command needs it.
-fn has(command: u8, kind: u8, there: bool) -> bool
-    ensures { λ r. ⌜ r ≡ thereIfNeeded command kind there ⌝ }
+// Whether no type is still needed.
+fn none_needed(row: &[u8; 8]) -> bool
+    ensures { λ r. ⌜ r ≡ allBelow 8 (notNeeded (now (row .entry))) ⌝ }
 {
-    if rules::role(command, kind) == rules::NEEDED {
-        there
-    } else {
-        true
-    }
-}
-
-// Whether every TLV that the command needs was seen.
-fn all_needed(command: u8, seen: &[bool; 8]) -> bool
-    ensures { λ r. ⌜ r ≡ allBelow 8 (seenIfNeeded command (now (seen .entry))) ⌝ }
-{
-    let mut kind: u8 = 0;
+    let mut kind: usize = 0;
     while kind < 8 {
-        if !has(command, kind, seen[kind as usize]) {
+        if row[kind] == rules::NEEDED {
             return false;
         }
         kind += 1;
@@ -135,22 +130,17 @@ fn all_needed(command: u8, seen: &[bool; 8]) -> bool
     true
 }
 
-// The TLVs after the header, from left to right, and last whether one is missing.
+// The TLVs after the header, from left to right, and last whether one is missing. The row of the command is changed on the way: SEEN for
+// each type that was there.
 fn check_tlvs(bytes: &[u8], command: u8) -> Verdict
     ensures { λ r. ⌜ r ≡ verdictOf (tlvsFrom (length (now (bytes .entry))) (now (bytes .entry)) 4 (emptyOf command)) ⌝ }
 {
     let mut at = 4;
-    let mut seen = [false; 8];
+    let mut row = rules::roles_of(command);
     while at < bytes.len() {
-        match check_tlv(bytes, at, command) {
+        match check_tlv(bytes, at, &row) {
             Tlv::Right { kind, len } => {
-                if seen[kind as usize] {
-                    return Verdict {
-                        status: Status::TlvRepeated,
-                        place: at,
-                    };
-                }
-                seen[kind as usize] = true;
+                row[kind as usize] = rules::SEEN;
                 at = at + 3 + len;
             }
             Tlv::Refused { status } => {
@@ -158,7 +148,7 @@ fn check_tlvs(bytes: &[u8], command: u8) -> Verdict
             }
         }
     }
-    if all_needed(command, &seen) {
+    if none_needed(&row) {
         Verdict {
             status: Status::Accepted,
             place: 0,
@@ -172,7 +162,7 @@ fn check_tlvs(bytes: &[u8], command: u8) -> Verdict
 }
 
 // Whether a message is accepted, and if not, its refusal.
-fn check(bytes: &[u8]) -> Verdict
+pub fn check(bytes: &[u8]) -> Verdict
     ensures { λ r. ⌜ r ≡ verdictOf (readMessage (now (bytes .entry))) ⌝ }
 {
     match read_header(bytes) {
@@ -181,11 +171,17 @@ fn check(bytes: &[u8]) -> Verdict
     }
 }
 
-// The record of an accepted message. Each value goes to its field in place: as a whole the record is not moved.
-fn fields(bytes: &[u8]) -> Message
-    requires { ⌜ IsAccepted (readMessage (now bytes)) ⌝ }
-    ensures { λ r. ⌜ Accepted r ≡ readMessage (now (bytes .entry)) ⌝ }
+// The record that the headers of the TLVs give, with no check: that of an accepted message. Each value goes to its field in place: as a whole
+// the record is not moved. Bytes that are too few or too many for a message give an empty one.
+pub fn fields(bytes: &[u8]) -> Message
+    ensures { λ r. ⌜ r ≡ fieldsOf (now (bytes .entry)) ⌝ }
 {
+    if bytes.len() <= 3 {
+        return record::empty(0);
+    }
+    if 65535 < bytes.len() {
+        return record::empty(0);
+    }
     let mut at = 4;
     let mut message = record::empty(bytes[3]);
     while at < bytes.len() {

@@ -15,7 +15,8 @@ use scan::bytes;
 use wire::status;
 use wire::status::Status;
 
-// Reads a message, which is all of the lent bytes, into the record.
+// Reads a message, which is all of the lent bytes, into the record. The reader's two steps are taken one after the other, so that its record
+// goes straight into the lent bytes.
 pub fn read(bytes: &[u8], record: &mut [u8]) -> Answer
     ensures answer { λ r. ⌜ r ≡ readAnswer (now (bytes .entry)) (now («record» .entry)) ⌝ }
     ensures after { λ _. ⌜ now («record» .exit) ≡ readRecord (now (bytes .entry)) (now («record» .entry)) ⌝ }
@@ -23,13 +24,13 @@ pub fn read(bytes: &[u8], record: &mut [u8]) -> Answer
     if record.len() < message_record::LENGTH {
         return refuse(Status::NoRoom, 0);
     }
-    match reader::read(bytes) {
-        reader::Answer::Accepted(message) => {
-            message_record::write(record, message);
-            accept()
-        }
-        reader::Answer::Refused { status, place } => refuse(status, place),
+    let verdict = reader::check(bytes);
+    let status = verdict.status;
+    if status::number(status) != 0 {
+        return refuse(status, verdict.place);
     }
+    message_record::write(record, reader::fields(bytes));
+    accept()
 }
 
 // Writes the message of a record, whose values stand in the lent bytes, to the first bytes of `out`.

@@ -1,3 +1,4 @@
 pub mod Checks
 pub mod Fragment
 pub mod Position
+pub mod Parsing

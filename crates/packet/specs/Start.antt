@@ -3,7 +3,9 @@
 use Prim.Native.Nat.{ℕ}
 use mathlib.Core.List.{List}
 use Rattle.wire.specs.Number.{number}
+use Rattle.wire.specs.Signed.{signed}
 use Rattle.packet.specs.declared.start.Start.{Start}
+use Rattle.packet.specs.declared.position.Position.{Position}
 
 unfoldable pub startOf : List ℕ → Start
 startOf p = record { «image_type» = number 1 p 25; «hot_x» = number 2 p 26; «hot_y» = number 2 p 28 }
@@ -11,3 +13,7 @@ startOf p = record { «image_type» = number 1 p 25; «hot_x» = number 2 p 26; 
 -- where no start was seen, and in a continuation
 unfoldable pub noStart : Start
 noStart = record { «image_type» = 0; «hot_x» = 0; «hot_y» = 0 }
+
+-- the position, with the packet's sequence number
+unfoldable pub startPosition : List ℕ → Position
+startPosition p = record { sequence = number 2 p 2; x = signed 2 (number 2 p 21); y = signed 2 (number 2 p 23) }

@@ -12,7 +12,9 @@
 //      30         ImageData, at offset 0
 ghost use mathlib.Core.Path.{_≡_};
 ghost use Rattle.packet.specs.Checks.{firstOf};
-ghost use Rattle.packet.specs.Fragment.{takesType, headerOf, imageData, offsetOf, outside, fragmentFrame, fragmentChecks, startFragment, continuationFragment, readFragment};
+ghost use mathlib.Core.Bool.{true, false};
+ghost use Rattle.packet.specs.Fragment.{isStart, headerOf, imageData, outside, startFragment, continuationFragment, readFragment};
+ghost use Rattle.packet.specs.Parsing.{bodyChecks, noFragment, refusedAs, parsedAs, parsed};
 use super::continuation;
 use super::continuation::Continuation;
 use super::frame;
@@ -21,7 +23,6 @@ use super::rtp::Rtp;
 use super::start;
 use super::start::Start;
 use wire::number;
-use wire::signed;
 use wire::status;
 use wire::status::Status;
 
@@ -37,9 +38,23 @@ pub struct Fragment {
     pub start: Start,
 }
 
+// The status, and the fragment of an accepted packet. A struct, since the variants of an enum share bytes: the fields would be packed and
+// unpacked again.
+pub struct Parsed {
+    pub status: Status,
+    pub fragment: Fragment,
+}
+
 pub enum FragmentAnswer {
     Accepted(Fragment),
     Refused { status: Status, place: usize },
+}
+
+// Whether a packet's type is that of a start.
+pub fn is_start(packet: &[u8]) -> bool
+    ensures { λ r. ⌜ r ≡ isStart (now (packet .entry)) ⌝ }
+{
+    number::u8_at(packet, 12) == Start::TYPE
 }
 
 fn header(starts: bool) -> usize
@@ -78,65 +93,19 @@ fn is_outside(offset: i32, length: usize, total: u32) -> bool
     true
 }
 
-// The offset: 0 for a start.
-fn offset(packet: &[u8], starts: bool) -> i32
-    ensures { λ r. ⌜ r ≡ offsetOf starts (now (packet .entry)) ⌝ }
-{
-    if starts {
-        return 0;
-    }
-    let own = continuation::read(packet);
-    own.offset
-}
-
-fn is_taken(kind: u8) -> bool
-    ensures { λ r. ⌜ r ≡ takesType kind ⌝ }
-{
-    if kind == Start::TYPE {
-        return true;
-    }
-    kind == Continuation::TYPE
-}
-
-// The checks 1, 3, 4, 2, 1, 2.
-fn check_frame(packet: &[u8], starts: bool) -> Status
-    ensures { λ r. ⌜ r ≡ firstOf (fragmentFrame starts (now (packet .entry))) ⌝ }
-{
-    let size = number::u16_at(packet, 13);
-    let taken = is_taken(number::u8_at(packet, 12));
-    frame::check(packet, size, taken, header(starts) <= size as usize)
-}
-
-// Those, then 9.
-fn check(packet: &[u8], starts: bool) -> Status
-    ensures { λ r. ⌜ r ≡ firstOf (fragmentChecks starts (now (packet .entry))) ⌝ }
-{
-    let status = check_frame(packet, starts);
-    if status::number(status) != 0 {
-        return status;
-    }
-    let length = image_data(packet, starts).len();
-    if is_outside(offset(packet, starts), length, number::u32_at(packet, 15)) {
-        return Status::OutsideImage;
-    }
-    Status::Accepted
-}
-
 fn start_fields(packet: &[u8]) -> Fragment
     ensures { λ r. ⌜ r ≡ startFragment (now (packet .entry)) ⌝ }
 {
-    let rtp = rtp::read(packet);
-    let x = signed::signed16(number::u16_at(packet, 21));
-    let y = signed::signed16(number::u16_at(packet, 23));
+    let position = start::position(packet);
     let own = start::read(packet);
     Fragment {
-        sequence: rtp.sequence,
+        sequence: position.sequence,
         total: number::u32_at(packet, 15),
         id: number::u16_at(packet, 19),
         offset: 0,
         starts: true,
-        x: x,
-        y: y,
+        x: position.x,
+        y: position.y,
         start: own,
     }
 }
@@ -159,26 +128,136 @@ fn continuation_fields(packet: &[u8]) -> Fragment
     }
 }
 
-// The start or continuation, or the first refusal in 01's order: fewer than 15 bytes 1; RTP 3; another type 4; PacketMsgSize below the
-// header 2; too few bytes 1; too many 2; negative offset, or offset plus data beyond the total, 9.
+// What stands in a fragment's place where the packet is refused.
+fn no_fragment() -> Fragment
+    ensures { λ r. ⌜ r ≡ noFragment ⌝ }
+{
+    let none = Start::none();
+    Fragment {
+        sequence: 0,
+        total: 0,
+        id: 0,
+        offset: 0,
+        starts: false,
+        x: 0,
+        y: 0,
+        start: none,
+    }
+}
+
+fn refused(status: Status) -> Parsed
+    ensures { λ r. ⌜ r ≡ refusedAs status ⌝ }
+{
+    Parsed {
+        status: status,
+        fragment: no_fragment(),
+    }
+}
+
+// The checks of a start after its header and type: PacketMsgSize below 18, 2; too few bytes 1; too many 2; data beyond the total 9.
+fn check_start(packet: &[u8]) -> Status
+    ensures { λ r. ⌜ r ≡ firstOf (bodyChecks true (now (packet .entry))) ⌝ }
+{
+    let size = number::u16_at(packet, 13) as usize;
+    if size < Start::HEADER {
+        return Status::WrongSize;
+    }
+    let end = Rtp::HEADER + size;
+    if packet.len() < end {
+        return Status::Truncated;
+    }
+    if end < packet.len() {
+        return Status::WrongSize;
+    }
+    let total = number::u32_at(packet, 15) as usize;
+    if total < size - Start::HEADER {
+        return Status::OutsideImage;
+    }
+    Status::Accepted
+}
+
+// The checks of a continuation after its header and type: PacketMsgSize below 13, 2; too few bytes 1; too many 2; negative offset, or
+// offset plus data beyond the total, 9.
+fn check_continuation(packet: &[u8]) -> Status
+    ensures { λ r. ⌜ r ≡ firstOf (bodyChecks false (now (packet .entry))) ⌝ }
+{
+    let size = number::u16_at(packet, 13) as usize;
+    if size < Continuation::HEADER {
+        return Status::WrongSize;
+    }
+    let end = Rtp::HEADER + size;
+    if packet.len() < end {
+        return Status::Truncated;
+    }
+    if end < packet.len() {
+        return Status::WrongSize;
+    }
+    let own = continuation::read(packet);
+    if is_outside(
+        own.offset,
+        size - Continuation::HEADER,
+        number::u32_at(packet, 15),
+    ) {
+        return Status::OutsideImage;
+    }
+    Status::Accepted
+}
+
+// A start after its header and type.
+fn parse_start(packet: &[u8]) -> Parsed
+    ensures { λ r. ⌜ r ≡ parsedAs (firstOf (bodyChecks true (now (packet .entry)))) (startFragment (now (packet .entry))) ⌝ }
+{
+    let status = check_start(packet);
+    if status::number(status) != 0 {
+        return refused(status);
+    }
+    Parsed {
+        status: status,
+        fragment: start_fields(packet),
+    }
+}
+
+// A continuation after its header and type.
+fn parse_continuation(packet: &[u8]) -> Parsed
+    ensures { λ r. ⌜ r ≡ parsedAs (firstOf (bodyChecks false (now (packet .entry)))) (continuationFragment (now (packet .entry))) ⌝ }
+{
+    let status = check_continuation(packet);
+    if status::number(status) != 0 {
+        return refused(status);
+    }
+    Parsed {
+        status: status,
+        fragment: continuation_fields(packet),
+    }
+}
+
+// The first refusal in 01's order, or Accepted with the fragment: fewer than 15 bytes 1; RTP 3; another type 4; then the checks of a start or
+// of a continuation.
+pub fn parse(packet: &[u8]) -> Parsed
+    ensures { λ r. ⌜ r ≡ parsed (now (packet .entry)) ⌝ }
+{
+    if packet.len() < frame::LEAST {
+        return refused(Status::Truncated);
+    }
+    if !rtp::holds(packet) {
+        return refused(Status::WrongHeader);
+    }
+    match number::u8_at(packet, 12) {
+        Start::TYPE => parse_start(packet),
+        Continuation::TYPE => parse_continuation(packet),
+        _ => refused(Status::UnknownKind),
+    }
+}
+
+// The start or continuation, or its refusal.
 pub fn read(packet: &[u8]) -> FragmentAnswer
     ensures { λ r. ⌜ r ≡ readFragment (now (packet .entry)) ⌝ }
 {
-    // The first check once more, so that no byte of the header needs one below.
-    if packet.len() < frame::LEAST {
-        return FragmentAnswer::Refused {
-            status: Status::Truncated,
-            place: 0,
-        };
-    }
-    let starts = number::u8_at(packet, 12) == Start::TYPE;
-    let status = check(packet, starts);
+    let parsed = parse(packet);
+    let status = parsed.status;
+    let fragment = parsed.fragment;
     if status::number(status) == 0 {
-        if starts {
-            FragmentAnswer::Accepted(start_fields(packet))
-        } else {
-            FragmentAnswer::Accepted(continuation_fields(packet))
-        }
+        FragmentAnswer::Accepted(fragment)
     } else {
         FragmentAnswer::Refused {
             status: status,

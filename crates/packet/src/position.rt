@@ -4,9 +4,11 @@
 //      15      2  XPos, signed
 //      17      2  YPos, signed
 ghost use mathlib.Core.Path.{_≡_};
-ghost use Rattle.packet.specs.Position.{positionOf, readPosition};
+ghost use Rattle.packet.specs.Checks.{firstOf};
+ghost use Rattle.packet.specs.Position.{positionChecks, positionOf, readPosition};
 use super::frame;
 use super::rtp;
+use super::rtp::Rtp;
 use wire::number;
 use wire::signed;
 use wire::status;
@@ -30,7 +32,7 @@ pub enum PositionAnswer {
 }
 
 // The fields of a position packet.
-fn fields(packet: &[u8]) -> Position
+pub fn fields(packet: &[u8]) -> Position
     ensures { λ r. ⌜ r ≡ positionOf (now (packet .entry)) ⌝ }
 {
     let rtp = rtp::read(packet);
@@ -43,21 +45,39 @@ fn fields(packet: &[u8]) -> Position
     }
 }
 
-// The position packet, or the first refusal in 01's order: fewer than 15 bytes 1; RTP 3; another type 4; PacketMsgSize not 7, 2; too few
-// bytes 1; too many 2.
+// The first refusal in 01's order, or Accepted: fewer than 15 bytes 1; RTP 3; another type 4; PacketMsgSize not 7, 2; too few bytes 1; too
+// many 2.
+pub fn check(packet: &[u8]) -> Status
+    ensures { λ r. ⌜ r ≡ firstOf (positionChecks (now (packet .entry))) ⌝ }
+{
+    if packet.len() < frame::LEAST {
+        return Status::Truncated;
+    }
+    if !rtp::holds(packet) {
+        return Status::WrongHeader;
+    }
+    if number::u8_at(packet, 12) != Position::TYPE {
+        return Status::UnknownKind;
+    }
+    let size = number::u16_at(packet, 13);
+    if size != Position::SIZE {
+        return Status::WrongSize;
+    }
+    let end = Rtp::HEADER + size as usize;
+    if packet.len() < end {
+        return Status::Truncated;
+    }
+    if end < packet.len() {
+        return Status::WrongSize;
+    }
+    Status::Accepted
+}
+
+// The position packet, or its refusal.
 pub fn read(packet: &[u8]) -> PositionAnswer
     ensures { λ r. ⌜ r ≡ readPosition (now (packet .entry)) ⌝ }
 {
-    // The first check once more, so that no byte of the header needs one below.
-    if packet.len() < frame::LEAST {
-        return PositionAnswer::Refused {
-            status: Status::Truncated,
-            place: 0,
-        };
-    }
-    let size = number::u16_at(packet, 13);
-    let taken = number::u8_at(packet, 12) == Position::TYPE;
-    let status = frame::check(packet, size, taken, size == Position::SIZE);
+    let status = check(packet);
     if status::number(status) == 0 {
         PositionAnswer::Accepted(fields(packet))
     } else {

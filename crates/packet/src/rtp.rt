@@ -11,10 +11,8 @@ pub struct Rtp {
 impl Rtp {
     // The header's length in bytes.
     pub const HEADER: usize = 12;
-    // Version 2, no padding, no extension, no CSRC.
-    pub const FIRST: u8 = 0x80;
-    // No marker, payload type 0.
-    pub const SECOND: u8 = 0;
+    // The first two bytes, 80 hex and 0: version 2, no padding, no extension, no CSRC; no marker, payload type 0.
+    pub const FIRST_TWO: u16 = 0x8000;
 }
 
 // Whether timestamp and SSRC are 0.
@@ -28,14 +26,15 @@ fn unused_zero(packet: &[u8]) -> bool
     false
 }
 
-// Whether the header is that of a cursor packet.
+// Whether the packet has the header of a cursor packet. After the test of its length no byte of it needs one.
 pub(crate) fn holds(packet: &[u8]) -> bool
     ensures { λ r. ⌜ r ≡ rtpHolds (now (packet .entry)) ⌝ }
 {
-    if number::u8_at(packet, 0) == Rtp::FIRST {
-        if number::u8_at(packet, 1) == Rtp::SECOND {
-            return unused_zero(packet);
-        }
+    if packet.len() < Rtp::HEADER {
+        return false;
+    }
+    if number::u16_at(packet, 0) == Rtp::FIRST_TWO {
+        return unused_zero(packet);
     }
     false
 }

@@ -1,14 +1,19 @@
-// What only a start has (003 section 2.2.3), but for its position.
+// What only a start has (003 section 2.2.3).
 //
 //   place  bytes
+//      21      2  XPos, signed
+//      23      2  YPos, signed
 //      25      1  CursorImageType
 //      26      2  HotSpotXPos
 //      28      2  HotSpotYPos
 ghost use mathlib.Core.Path.{_≡_};
-ghost use Rattle.packet.specs.Start.{noStart, startOf};
+ghost use Rattle.packet.specs.Start.{noStart, startOf, startPosition};
+use super::position::Position;
+use super::rtp;
 use wire::number;
+use wire::signed;
 
-// A start's own fields.
+// A start's own fields, which its position is not among.
 pub struct Start {
     pub image_type: u8,
     pub hot_x: u16,
@@ -39,5 +44,19 @@ pub(crate) fn read(packet: &[u8]) -> Start
         image_type: number::u8_at(packet, 25),
         hot_x: number::u16_at(packet, 26),
         hot_y: number::u16_at(packet, 28),
+    }
+}
+
+// The position of a packet that is a start, with the packet's sequence number.
+pub fn position(packet: &[u8]) -> Position
+    ensures { λ r. ⌜ r ≡ startPosition (now (packet .entry)) ⌝ }
+{
+    let rtp = rtp::read(packet);
+    let x = signed::signed16(number::u16_at(packet, 21));
+    let y = signed::signed16(number::u16_at(packet, 23));
+    Position {
+        sequence: rtp.sequence,
+        x: x,
+        y: y,
     }
 }

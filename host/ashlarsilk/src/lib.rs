@@ -42,7 +42,7 @@ mod session;
 #[allow(unsafe_code)]
 pub mod sys;
 
-pub use limits::Limits;
+pub use limits::{Limits, Supported};
 pub use message::{Command, Field, Message, SourceId, Tlv};
 pub use refusal::{Refusal, Refused};
 pub use session::{Accepted, Event, Session, State};

@@ -267,7 +267,8 @@ impl Message {
     #[inline]
     pub fn write(&self, bytes: &[u8], out: &mut [u8]) -> Result<usize, Refused> {
         let written = sys::message_write(bytes, &self.record, out);
-        Refused::check(written.status, 0)?;
+        // Where the library refuses, the size is 0, and so is the place of a writer's refusal.
+        Refused::check(written.status, written.size)?;
         Ok(written.size)
     }
 

@@ -179,14 +179,23 @@ impl Refused {
     /// Nothing for status 0, otherwise the refusal with this number.
     #[inline]
     pub(crate) fn check(status: u8, place: usize) -> Result<(), Refused> {
-        if status == 0 {
-            return Ok(());
+        // First, so that the compiled code has no other test where both are handed on as they are.
+        if status > Refusal::NotWritable.number() {
+            no_refusal(status);
         }
         match Refusal::from_number(status) {
             Some(refusal) => Err(Refused { refusal, place }),
-            None => panic!("libashlarsilk.a answered with the number {status}, which is none"),
+            None if status == 0 => Ok(()),
+            None => no_refusal(status),
         }
     }
+}
+
+/// Ends a call whose status is no refusal's number. The number comes by value, so that a status is
+/// stored for the text here only.
+#[cold]
+fn no_refusal(number: u8) -> ! {
+    panic!("libashlarsilk.a answered with the number {number}, which is none")
 }
 
 impl fmt::Display for Refused {

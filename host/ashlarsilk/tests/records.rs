@@ -4,7 +4,7 @@ use std::collections::HashSet;
 
 use ashlarsilk::cursor::{Opened, Picture, Pointer, Start};
 use ashlarsilk::{Command, Event, Field, Limits, Message, Refusal, Refused};
-use ashlarsilk::{Session, SourceId, State, Tlv};
+use ashlarsilk::{Session, SourceId, State, Supported, Tlv};
 
 #[test]
 fn a_message_record_holds_each_field_at_its_place() {
@@ -74,15 +74,33 @@ fn records_that_say_the_same_are_equal() {
     assert_eq!(Picture::from_bytes(bytes).opened(), Some(opened));
     bytes[0] = 0;
     assert_eq!(Picture::from_bytes(bytes), Picture::default());
+
+    let full = Limits::from_bytes([9, 7, 2, 1, 4, 3, 6, 5]);
+    assert_eq!(full, Limits::from_bytes([1, 1, 2, 1, 4, 3, 6, 5]));
+    assert_ne!(full, Limits::from_bytes([1, 0, 2, 1, 4, 3, 6, 5]));
+    assert_ne!(full, Limits::from_bytes([1, 1, 2, 1, 4, 3, 6, 6]));
+    assert_ne!(full, Limits::not_supported());
+    assert_eq!(Limits::from_bytes([0, 7, 1, 2, 3, 4, 5, 6]), Limits::not_supported());
 }
 
 #[test]
 fn limits_go_to_their_bytes_and_back() {
-    let limits = Limits::Supported { xor: true, width: 0x0102, height: 0x0304, port: 0x0506 };
-    assert_eq!(limits.to_bytes(), [1, 1, 2, 1, 4, 3, 6, 5]);
-    assert_eq!(Limits::from_bytes([9, 7, 2, 1, 4, 3, 6, 5]), limits);
-    assert_eq!(Limits::from_bytes([0, 7, 1, 2, 3, 4, 5, 6]), Limits::NotSupported);
-    assert_eq!(Limits::NotSupported.to_bytes(), [0; 8]);
+    let full = Supported { xor: true, width: 0x0102, height: 0x0304, port: 0x0506 };
+    assert_eq!(*Limits::new(full).as_bytes(), [1, 1, 2, 1, 4, 3, 6, 5]);
+    assert_eq!(Limits::new(full).supported(), Some(full));
+    let none = Supported { xor: false, ..full };
+    assert_eq!(*Limits::new(none).as_bytes(), [1, 0, 2, 1, 4, 3, 6, 5]);
+    assert_eq!(Limits::new(none).supported(), Some(none));
+    assert_eq!(*Limits::not_supported().as_bytes(), [0; 8]);
+    assert_eq!(Limits::not_supported().supported(), None);
+
+    // Any bytes are kept as they are; a flag other than 0 means yes.
+    let limits = Limits::from_bytes([9, 7, 2, 1, 4, 3, 6, 5]);
+    assert_eq!(*limits.as_bytes(), [9, 7, 2, 1, 4, 3, 6, 5]);
+    assert_eq!(limits.supported(), Some(full));
+    let limits = Limits::from_bytes([0, 7, 1, 2, 3, 4, 5, 6]);
+    assert_eq!(*limits.as_bytes(), [0, 7, 1, 2, 3, 4, 5, 6]);
+    assert_eq!(limits.supported(), None);
 }
 
 #[test]
@@ -112,4 +130,5 @@ fn names_are_shown() {
     let id = SourceId([0x0A; 16]);
     assert_eq!(id.to_string(), "0A".repeat(16));
     assert_eq!(format!("{:?}", Pointer::fresh()), "Pointer { position: None, sequence: None }");
+    assert_eq!(format!("{:?}", Limits::not_supported()), "Limits { supported: None }");
 }

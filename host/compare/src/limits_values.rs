@@ -1,6 +1,6 @@
 //! The cursor limits value: read and written.
 
-use ashlarsilk::{sys, Limits};
+use ashlarsilk::{sys, Limits, Supported};
 use reference::limits;
 
 use crate::layout::{self, LIMITS};
@@ -25,9 +25,28 @@ fn check_read(tally: &mut Tally, random: &mut Random, text: &[u8]) {
 
     let read = Limits::read(text);
     tally.expect(call, "wrapped answer", wrapped(&read), (number, place), input);
-    let values =
-        (read.ok().map(Limits::to_bytes), expected.ok().map(|found| layout::limits(&found)));
-    tally.expect(call, "wrapped record", values.0, values.1, input);
+    if let (Ok(read), Ok(limits)) = (&read, &expected) {
+        tally.expect(call, "wrapped record", *read.as_bytes(), layout::limits(limits), input);
+        check_said(tally, call, read);
+    }
+}
+
+/// What the wrapper says of limits, and what the reference's limits of the same bytes say; then the
+/// limits that the wrapper makes of this.
+fn check_said(tally: &mut Tally, call: Call, record: &Limits) {
+    let limits = layout::limits_in(record.as_bytes());
+    let expected = match limits {
+        limits::Limits::NotSupported => None,
+        limits::Limits::Supported { xor, width, height, port } => {
+            Some(Supported { xor, width, height, port })
+        }
+    };
+    let input = || hex(record.as_bytes());
+    tally.expect(call, "what the limits say", record.supported(), expected, input);
+
+    let made = expected.map_or(Limits::not_supported(), Limits::new);
+    tally.expect(call, "made record", *made.as_bytes(), layout::limits(&limits), input);
+    tally.expect(call, "made limits", made, *record, input);
 }
 
 fn check_write(tally: &mut Tally, record: &[u8; LIMITS], before: &[u8]) {
@@ -50,10 +69,12 @@ fn check_write(tally: &mut Tally, record: &[u8; LIMITS], before: &[u8]) {
     }
 
     let mut through = before.to_vec();
-    let answer = Limits::from_bytes(*record).write(&mut through);
+    let wrapper = Limits::from_bytes(*record);
+    let answer = wrapper.write(&mut through);
     tally.expect(call, "wrapped answer", wrapped(&answer), (number, 0), input);
     tally.expect(call, "wrapped size", answer.unwrap_or(0), size, input);
     tally.expect(call, "wrapped output", &through, &out, input);
+    check_said(tally, call, &wrapper);
 }
 
 /// The text with each letter small or capital at random.

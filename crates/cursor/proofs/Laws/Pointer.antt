@@ -6,16 +6,14 @@ use mathlib.Core.List.{List, [], _∷_}
 use Rattle.wire.specs.Sequence.{distance, isNewer}
 use Rattle.wire.specs.declared.status.Status.{Status}
 use Rattle.wire.specs.declared.status.Status.the-variants as status
-use Rattle.packet.specs.declared.position.Position.{Position}
-use Rattle.packet.specs.declared.position.PositionAnswer.the-variants as position
 use Rattle.packet.specs.Checks.{refuse, firstOf, accepted}
-use Rattle.packet.specs.Position.{positionChecks, positionOf, readPosition}
+use Rattle.packet.specs.Position.{positionChecks, positionOf}
 use Rattle.packet.proofs.Laws.Checks.{first-append}
-use Rattle.packet.proofs.Laws.Position.{checks-refuse, read-refused, read-accepted}
+use Rattle.packet.proofs.Laws.Position.{checks-refuse}
 use Rattle.cursor.specs.declared.pointer.Pointer.{Pointer}
 use Rattle.cursor.specs.declared.pointer.Positioned.{Positioned}
 use Rattle.cursor.specs.declared.pointer.PointerAnswer.the-variants.{Accepted, Refused}
-use Rattle.cursor.specs.Pointer.{pointerMoves, movedTo, positionStatus, movedBy, positioned, WrapMoves}
+use Rattle.cursor.specs.Pointer.{pointerMoves, movedTo, positionStatus, positionedTo, movedBy, positioned, WrapMoves}
 
 pub position-status
     : (p : Pointer) (packet : List ℕ)
@@ -26,29 +24,22 @@ unfolding positionStatus firstOf
 position-status p packet = first-append (positionChecks packet) (refuse status.NotNewer (not (pointerMoves p (positionOf packet .sequence))) ∷ []) (checks-refuse packet)
 
 module _ (p : Pointer) (packet : List ℕ) where
-  pub moved-refused : (s : Status) (k : ℕ) → readPosition packet ≡ position.Refused s k → movedBy p packet ≡ record { status = s; pointer = p }
+  pub moved-refused
+      : accepted (firstOf (positionChecks packet)) ≡ false → movedBy p packet ≡ record { status = firstOf (positionChecks packet); pointer = p }
   unfolding movedBy
-  moved-refused s k e =
-      let r = read-refused packet s k e in
-      let t : positionStatus p packet ≡ s = position-status p packet ∙ simp (r .0) (r .1) in
-      let n : accepted s ≡ false = sym (ap accepted (r .1)) ∙ r .0 in
+  moved-refused n =
+      let t : positionStatus p packet ≡ firstOf (positionChecks packet) = position-status p packet ∙ simp n in
       simp (t, n)
 
-  module _ (x : Position) (e : readPosition packet ≡ position.Accepted x) where
-    pub moved-late : pointerMoves p (x .sequence) ≡ false → movedBy p packet ≡ record { status = status.NotNewer; pointer = p }
+  module _ (a : accepted (firstOf (positionChecks packet)) ≡ true) where
+    pub moved-late : pointerMoves p (positionOf packet .sequence) ≡ false → movedBy p packet ≡ record { status = status.NotNewer; pointer = p }
     unfolding movedBy
-    moved-late n =
-        let r = read-accepted packet x e in
-        let t : positionStatus p packet ≡ status.NotNewer = position-status p packet ∙ simp (r .0, r .1, n) in
-        simp t
+    moved-late n = let t : positionStatus p packet ≡ status.NotNewer = position-status p packet ∙ simp (a, n) in simp t
 
-    pub moved-moves : pointerMoves p (x .sequence) ≡ true
-        → movedBy p packet ≡ record { status = status.Accepted; pointer = movedTo p (x .sequence) (x .x) (x .y) }
+    pub moved-moves : pointerMoves p (positionOf packet .sequence) ≡ true
+        → movedBy p packet ≡ record { status = status.Accepted; pointer = positionedTo p packet }
     unfolding movedBy
-    moved-moves n =
-        let r = read-accepted packet x e in
-        let t : positionStatus p packet ≡ status.Accepted = position-status p packet ∙ simp (r .0, r .1, n) in
-        simp (t, r .1)
+    moved-moves n = let t : positionStatus p packet ≡ status.Accepted = position-status p packet ∙ simp (a, n) in simp t
 
   -- the call for positions, by what the packet does
   module _ (m : Positioned) (e : m ≡ movedBy p packet) where

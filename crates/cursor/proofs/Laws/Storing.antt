@@ -29,38 +29,16 @@ pub store-status
 unfolding storeStatus storeChecks firstOf
 store-status q packet image marks = rw (first-append (fragmentChecks (isStart packet) packet) (judging q (fragmentOf packet) (dataOf packet) image marks) (checks-refuse (isStart packet) packet))
 
-module _ (p : Pointer) (q : Picture) (packet image marks : List ℕ) where
-  pub stored-not-held : held q (length image) (length marks) ≡ false → stored p q packet image marks ≡ after (Refused status.ImageNotHeld 0) image marks
-  unfolding stored outcome
-  stored-not-held h = let t : storeStatus q packet image marks ≡ status.ImageNotHeld = store-status q packet image marks ∙ simp h in simp t
-
-  module _ (h : held q (length image) (length marks) ≡ true) where
-    pub stored-refused : (s : Status) (k : ℕ) → readFragment packet ≡ fragment.Refused s k → stored p q packet image marks ≡ after (Refused s k) image marks
-    unfolding stored outcome
-    stored-refused s k e =
-        let r = read-refused packet s k e in
-        let t : storeStatus q packet image marks ≡ s = store-status q packet image marks ∙ simp (h, r .0) (r .1) in
-        let n : accepted s ≡ false = sym (ap accepted (r .1)) ∙ r .0 in
-        simp (t, n, r .2)
-
-    pub stored-well : accepted (fragmentStatus packet) ≡ true
-        → stored p q packet image marks ≡ taken p q (fragmentOf packet) (dataOf packet) image marks
-    unfolding stored taken
-    stored-well e =
-        ap (λ (s : Status). outcome s p q (fragmentOf packet) (dataOf packet) image marks) (store-status q packet image marks ∙ simp (h, e))
-
-    pub stored-taken : (f : Fragment) → readFragment packet ≡ fragment.Accepted f
-        → stored p q packet image marks ≡ taken p q f (imageData (f .starts) packet) image marks
-    stored-taken f e = let r = read-accepted packet f e in stored-well (r .0) ∙ rw (← r .1, starts-is packet)
+pub stored-well
+    : (p : Pointer) (q : Picture) (packet image marks : List ℕ) → held q (length image) (length marks) ≡ true → accepted (fragmentStatus packet) ≡ true
+    → stored p q packet image marks ≡ taken p q (fragmentOf packet) (dataOf packet) image marks
+unfolding stored taken
+stored-well p q packet image marks h e =
+    ap (λ (s : Status). outcome s p q (fragmentOf packet) (dataOf packet) image marks) (store-status q packet image marks ∙ simp (h, e))
 
 -- a part that lies in the list has its length
 pub part-length : (at n : ℕ) (xs : List ℕ) → at + n ≤ length xs → length (take n (drop at xs)) ≡ n
 part-length at n xs h = simp (length-take, length-drop) (omega arith)
-
--- the data of an accepted packet lie inside the total
-pub read-inside : (packet : List ℕ) (f : Fragment) → readFragment packet ≡ fragment.Accepted f → f .offset + length (imageData (f .starts) packet) ≤ f .total
-unfolding DataInside
-read-inside packet f e = let r = read-accepted packet f e in rw (← r .1, starts-is packet) (data-inside packet (r .0))
 
 pub old-continuation-stored : OldContinuationStored
 unfolding OldContinuationStored SequenceIgnored taken outcome openedFor clearedFor imageAfter marksAfter withStart pictureAfter pointerAfter

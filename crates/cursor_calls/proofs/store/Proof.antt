@@ -1,7 +1,10 @@
--- A record is too short, or the answer is of one of two forms. Assumes nothing.
-use mathlib.Core.Path.{sym, _∙_}
-use borrow.Author.Tests.{not-true, not-false}
+-- A record is too short, or the status decides. Assumes nothing.
+use mathlib.Core.Path.{refl, sym, _∙_}
+use borrow.Author.Tests.{eq-eqb, ne-eqb, not-true, not-false}
 use denote.Ref.{now}
+use Rattle.records.specs.PointerRecord.{pointerOf}
+use Rattle.records.specs.PictureRecord.{pictureOf}
+use Rattle.cursor.proofs.Laws.Assembling.{stored-accepted, stored-refused}
 use Rattle.cursor_calls.proofs.Laws.CursorCalls.{store-short, store-answered}
 use borrow.Author.Needs.{needs}
 use Rattle.cursor_calls.proofs.store.Statement.{statement}
@@ -23,26 +26,11 @@ returns c =
 read-requires : tie.Need-read-requires
 read-requires c κs = search needs
 
-read-requires-2 : tie.Need-read-requires-2
-read-requires-2 c κs = search needs
+assemble-requires : tie.Need-assemble-requires
+assemble-requires c κs = search needs
 
-store-requires : tie.Need-store-requires
-store-requires c κs = search needs
-
-enum-known-opened : tie.Need-enum-known-opened
-enum-known-opened c = search needs
-
-write-requires : tie.Need-write-requires
-write-requires c κs = search needs
-
-write-requires-2 : tie.Need-write-requires-2
-write-requires-2 c κs = search needs
-
-accept-requires : tie.Need-accept-requires
-accept-requires c κs = search needs
-
-enum-known-status : tie.Need-enum-known-status
-enum-known-status c = search needs
+number-requires : tie.Need-number-requires
+number-requires c κs = search needs
 
 refuse-requires-2 : tie.Need-refuse-requires-2
 refuse-requires-2 c κs = search needs
@@ -56,22 +44,36 @@ same-length-2 c = search needs
 same-length-3 : tie.Need-same-length-3
 same-length-3 c = search needs
 
-same-length-4 : tie.Need-same-length-4
-same-length-4 c = search needs
-
 returns-2 : tie.Need-returns-2
 returns-2 c =
-    let q = c .before .before .before in
-    let p = q .before .before .before .before in
-    let g = p .before .before .before in
-    let s = g .before .before .before .before .before .before in
-    let k = s .before .before .before in
-    let r = k .before .before in
+    let n = c .before .before in
+    let k = n .before .before .before .before .before .before in
+    let r = k .before .before .before in
     let i = r .before .before in
     let t = i .before in
     let a = t .before .before .before .before .before .before .args in
-    rw (c .accept .ensures, q .write2 .ensures, p .write .ensures)
-    (sym (store-answered (now (a .pointer)) (now (a .picture)) (now (a .packet)) (now (a .image)) (now (a .marks)) _ _ _ (sym (t .are-whole .ensures) ∙ not-false _ (i .if1 .left)) (s .store .ensures ∙ rw (k .read2 .ensures, r .read .ensures)) (g .opened .given .1)))
+    rw (c .refuse2 .ensures)
+    (sym (store-answered (now (a .pointer)) (now (a .picture)) (now (a .packet)) (now (a .image)) (now (a .marks)) _ _ _ (sym (t .are-whole .ensures) ∙ not-false _ (i .if1 .left))
+    (stored-refused (pointerOf (now (a .pointer))) (pictureOf (now (a .picture))) (now (a .packet)) (now (a .image)) (now (a .marks)) (k .assemble .result) _ _ (k .assemble .ensures ∙ rw (r .read .ensures)) (ne-eqb _ 0 (λ e. c .before .if2 .taken (n .number .ensures ∙ e))))
+    refl))
+
+read-requires-2 : tie.Need-read-requires-2
+read-requires-2 c κs = search needs
+
+moved-by-requires : tie.Need-moved-by-requires
+moved-by-requires c κs = search needs
+
+write-requires : tie.Need-write-requires
+write-requires c κs = search needs
+
+write-requires-2 : tie.Need-write-requires-2
+write-requires-2 c κs = search needs
+
+accept-requires : tie.Need-accept-requires
+accept-requires c κs = search needs
+
+same-length-4 : tie.Need-same-length-4
+same-length-4 c = search needs
 
 same-length-5 : tie.Need-same-length-5
 same-length-5 c = search needs
@@ -82,20 +84,22 @@ same-length-6 c = search needs
 same-length-7 : tie.Need-same-length-7
 same-length-7 c = search needs
 
-same-length-8 : tie.Need-same-length-8
-same-length-8 c = search needs
-
 returns-3 : tie.Need-returns-3
 returns-3 c =
-    let g = c .before .before in
-    let s = g .before .before .before .before .before .before in
-    let k = s .before .before .before in
-    let r = k .before .before in
+    let p = c .before .before .before in
+    let q = p .before .before .before .before in
+    let m = q .before .before in
+    let v = m .before in
+    let n = v .before .before .before in
+    let k = n .before .before .before .before .before .before in
+    let r = k .before .before .before in
     let i = r .before .before in
     let t = i .before in
     let a = t .before .before .before .before .before .before .args in
-    rw (c .refuse2 .ensures)
-    (sym (store-answered (now (a .pointer)) (now (a .picture)) (now (a .packet)) (now (a .image)) (now (a .marks)) _ _ _ (sym (t .are-whole .ensures) ∙ not-false _ (i .if1 .left)) (s .store .ensures ∙ rw (k .read2 .ensures, r .read .ensures)) (g .status .given .1)))
+    rw (c .accept .ensures, p .write2 .ensures, q .write .ensures, m .moved-by .ensures, v .read2 .ensures)
+    (sym (store-answered (now (a .pointer)) (now (a .picture)) (now (a .packet)) (now (a .image)) (now (a .marks)) _ _ _ (sym (t .are-whole .ensures) ∙ not-false _ (i .if1 .left))
+    (stored-accepted (pointerOf (now (a .pointer))) (pictureOf (now (a .picture))) (now (a .packet)) (now (a .image)) (now (a .marks)) (k .assemble .result) _ _ (k .assemble .ensures ∙ rw (r .read .ensures)) (eq-eqb _ 0 (sym (n .number .ensures) ∙ v .before .before .if2 .left)))
+    refl))
 
 pub store-spec : {M : Type 1} → statement M
 store-spec =
@@ -105,21 +109,20 @@ store-spec =
     refuse-requires
     returns
     read-requires
-    read-requires-2
-    store-requires
-    enum-known-opened
-    write-requires
-    write-requires-2
-    accept-requires
-    enum-known-status
+    assemble-requires
+    number-requires
     refuse-requires-2
     same-length
     same-length-2
     same-length-3
-    same-length-4
     returns-2
+    read-requires-2
+    moved-by-requires
+    write-requires
+    write-requires-2
+    accept-requires
+    same-length-4
     same-length-5
     same-length-6
     same-length-7
-    same-length-8
     returns-3)

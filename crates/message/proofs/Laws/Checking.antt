@@ -2,12 +2,12 @@
 use Prim.Native.Nat.{ℕ, zero, suc, _+_, _≤_, _<_}
 use mathlib.Core.Path.{_≡_, refl, sym, ap, _∙_, subst}
 use mathlib.Core.List.{List}
-use mathlib.Core.Bool.{Bool, true, false, cond, not}
+use mathlib.Core.Bool.{Bool, true, false, cond, not, false≢true}
 use mathlib.Core.Logic.{⊎-elim}
 use native.Mathlib.Omega.{arith}
 use borrow.Author.Tests.{ltb-false}
 use lib.Dec.{ltb, eqb}
-use lib.ListN.{length, getD, set, replicate, length-set}
+use lib.ListN.{length, set, length-set}
 use lib.Seq.{getD-set-same, getD-set-other}
 use Rattle.wire.specs.Below.{allBelow}
 use Rattle.wire.specs.declared.status.Status.{Status}
@@ -17,12 +17,12 @@ use Rattle.message.specs.declared.record.Message.{Message}
 use Rattle.message.specs.declared.reader.Tlv.{Tlv}
 use Rattle.message.specs.declared.reader.Tlv.the-variants as tlv
 use Rattle.message.specs.declared.reader.Verdict.{Verdict}
-use Rattle.message.specs.Rules.{roleOf, foreign, lengthOk}
+use Rattle.message.specs.Rules.{entryOf, rolesOf, roleOf, foreign, needed, lengthOk}
 use Rattle.message.specs.Record.{fieldOf, withField, emptyOf}
 use Rattle.message.specs.Reading.{typeAt, lengthAt, nextAt, Step, tlvAt, hasNeeded, isComplete, lastOf, tlvsFrom}
-use Rattle.message.specs.Checking.{tlvOf, stepOf, thereIfNeeded, seenIfNeeded, verdictOf}
+use Rattle.message.specs.Checking.{seen, tlvIn, stepOf, notNeeded, verdictOf}
 use Rattle.wire.proofs.Laws.Bool.{impossible, by-test}
-use Rattle.message.proofs.Laws.Rules.{type-small, type-not-1}
+use Rattle.message.proofs.Laws.Rules.{eight-columns, type-small, type-not-1, role-not-seen}
 use Rattle.message.proofs.Laws.Record.{field-with, field-empty, command-with, command-empty}
 use Rattle.message.proofs.Laws.Reading.{tlvs-known, tlvs-refused, tlvs-end}
 
@@ -30,26 +30,75 @@ use Rattle.message.proofs.Laws.Reading.{tlvs-known, tlvs-refused, tlvs-
 
 -- the same tests, before or after f
 tests
-    : (f : Tlv → Step) (a b d e : Bool) (v w x y z : Tlv)
-    → cond a (f v) (cond b (f w) (cond d (f x) (cond e (f y) (f z)))) ≡ f (cond a v (cond b w (cond d x (cond e y z))))
-tests f true b d e v w x y z = refl
-tests f false true d e v w x y z = refl
-tests f false false true e v w x y z = refl
-tests f false false false true v w x y z = refl
-tests f false false false false v w x y z = refl
+    : (f : Tlv → Step) (a b d e g : Bool) (u v w x y z : Tlv)
+    → cond a (f u) (cond b (f v) (cond d (f w) (cond e (f x) (cond g (f y) (f z)))))
+    ≡ f (cond a u (cond b v (cond d w (cond e x (cond g y z)))))
+tests f true b d e g u v w x y z = refl
+tests f false true d e g u v w x y z = refl
+tests f false false true e g u v w x y z = refl
+tests f false false false true g u v w x y z = refl
+tests f false false false false true u v w x y z = refl
+tests f false false false false false u v w x y z = refl
 
-tlv-step : (s : List ℕ) (at : ℕ) (m : Message) → tlvAt s at m ≡ stepOf at m (tlvOf s at (m .command))
-unfolding tlvAt tlvOf
-tlv-step s at m =
-    let t = typeAt s at in
-    tests (stepOf at m) (ltb (length s) (at + 3)) (ltb (length s) (nextAt s at)) (eqb (roleOf (m .command) t) foreign)
-    (not (lengthOk t (lengthAt s at))) (tlv.Refused status.TlvTruncated) (tlv.Refused status.TlvTruncated)
-    (tlv.Refused status.TlvUnexpected) (tlv.Refused status.TlvLength) (tlv.Right t (lengthAt s at))
+-- The entry for a type of role r in the row: `seen` where the type was there.
+abbrev marked : Bool → ℕ → ℕ
+marked there r = cond there seen r
 
--- a TLV that is right but for 7 lies within the message, and its type is one that the record has
-pub record Fits (s : List ℕ) (at t n : ℕ) : Type 0 where
+marked-foreign : (there : Bool) (r : ℕ) → (there ≡ true → eqb r foreign ≡ false) → eqb (marked there r) foreign ≡ eqb r foreign
+marked-foreign true r own = sym (own refl)
+marked-foreign false r own = refl
+
+marked-seen : (there : Bool) (r : ℕ) → eqb r seen ≡ false → eqb (marked there r) seen ≡ there
+marked-seen true r n = refl
+marked-seen false r n = n
+
+marked-needed : (there : Bool) (r : ℕ) → not (eqb (marked there r) needed) ≡ cond (eqb r needed) there true
+marked-needed true r = go (eqb r needed)
+  where
+    go : (b : Bool) → true ≡ cond b true true
+    go true = refl
+    go false = refl
+marked-needed false r = go (eqb r needed)
+  where
+    go : (b : Bool) → not b ≡ cond b false true
+    go true = refl
+    go false = refl
+
+-- `row` tells which types the record m of a message of command c has: these belong to the command
+pub record Told (c : ℕ) (m : Message) (row : List ℕ) : Type 0 where
+  pub command : m .command ≡ c
+  pub eight : length row ≡ 8
+  pub told : (t : ℕ) → entryOf row t ≡ marked (fieldOf m t .present) (roleOf c t)
+  pub own : (t : ℕ) → fieldOf m t .present ≡ true → eqb (roleOf c t) foreign ≡ false
+
+module _ {c : ℕ} {m : Message} {row : List ℕ} (g : Told c m row) where
+  entry-foreign : (t : ℕ) → eqb (entryOf row t) foreign ≡ eqb (roleOf (m .command) t) foreign
+  entry-foreign t = rw (g .command, g .told t) (marked-foreign (fieldOf m t .present) (roleOf c t) (g .own t))
+
+  entry-seen : (t : ℕ) → eqb (entryOf row t) seen ≡ fieldOf m t .present
+  entry-seen t = rw (g .told t) (marked-seen (fieldOf m t .present) (roleOf c t) (role-not-seen c t))
+
+  entry-needed : (t : ℕ) → notNeeded row t ≡ hasNeeded m t
+  unfolding hasNeeded
+  entry-needed t =
+      rw (g .told t)
+      (marked-needed (fieldOf m t .present) (roleOf c t)
+      ∙ ap (λ (i : ℕ). cond (eqb (roleOf i t) needed) (fieldOf m t .present) true) (sym (g .command)))
+
+  tlv-step : (s : List ℕ) (at : ℕ) → tlvAt s at m ≡ stepOf at m (tlvIn s at row)
+  unfolding tlvAt tlvIn
+  tlv-step s at =
+      let t = typeAt s at in
+      rw (← entry-foreign t, ← entry-seen t)
+      (tests (stepOf at m) (ltb (length s) (at + 3)) (ltb (length s) (nextAt s at)) (eqb (entryOf row t) foreign)
+      (not (lengthOk t (lengthAt s at))) (eqb (entryOf row t) seen) (tlv.Refused status.TlvTruncated) (tlv.Refused status.TlvTruncated)
+      (tlv.Refused status.TlvUnexpected) (tlv.Refused status.TlvLength) (tlv.Refused status.TlvRepeated) (tlv.Right t (lengthAt s at)))
+
+-- a right TLV lies within the message, and its type is one that the record has and the command knows
+pub record Fits (s : List ℕ) (at c t n : ℕ) : Type 0 where
   pub small : t < 8
   pub not-1 : t ≡ 1 → ⊥
+  pub own : eqb (roleOf c t) foreign ≡ false
   pub whole : at + 3 + n ≤ length s
 
 clash : {A : Type 0} {st : Status} {t n : ℕ} → tlv.Refused st ≡ tlv.Right t n → A
@@ -58,115 +107,115 @@ clash e = impossible (cc)
 same : {a b t n : ℕ} → tlv.Right a b ≡ tlv.Right t n → (a ≡ t) × (b ≡ n)
 same e = (cc, cc)
 
-pub right-fits : (s : List ℕ) (at c t n : ℕ) → tlvOf s at c ≡ tlv.Right t n → Fits s at t n
-unfolding tlvOf
-right-fits s at c t n =
-    let P : Tlv → Type 0 = λ x. x ≡ tlv.Right t n → Fits s at t n in
+pub right-fits : (s : List ℕ) (at c : ℕ) (m : Message) (row : List ℕ) → Told c m row → (t n : ℕ) → tlvIn s at row ≡ tlv.Right t n → Fits s at c t n
+unfolding tlvIn
+right-fits s at c m row g t n =
+    let P : Tlv → Type 0 = λ x. x ≡ tlv.Right t n → Fits s at c t n in
     let u = typeAt s at in
     by-test P (ltb (length s) (at + 3)) _ _ (λ a e. clash e)
     (λ a. by-test P (ltb (length s) (nextAt s at)) _ _ (λ b e. clash e)
-    (λ b. by-test P (eqb (roleOf c u) foreign) _ _ (λ d e. clash e)
+    (λ b. by-test P (eqb (entryOf row u) foreign) _ _ (λ d e. clash e)
     (λ d. by-test P (not (lengthOk u (lengthAt s at))) _ _ (λ l e. clash e)
-    (λ l e.
+    (λ l. by-test P (eqb (entryOf row u) seen) _ _ (λ p e. clash e)
+    (λ p e.
     let q = same e in
-    subst (λ (i : ℕ). Fits s at i n) (q .0) (subst (λ (i : ℕ). Fits s at u i) (q .1)
-    (record { small = type-small c u d; not-1 = type-not-1 c u d; whole = ltb-false (length s) (nextAt s at) b }))))))
+    let r : eqb (roleOf c u) foreign ≡ false = ap (λ (i : ℕ). eqb (roleOf i u) foreign) (sym (g .command)) ∙ sym (entry-foreign g u) ∙ d in
+    subst (λ (i : ℕ). Fits s at c i n) (q .0) (subst (λ (i : ℕ). Fits s at c u i) (q .1)
+    (record { small = type-small c u r; not-1 = type-not-1 c u r; own = r; whole = ltb-false (length s) (nextAt s at) b })))))))
 
 -- ---- the TLVs so far
 
 abbrev Whole : List ℕ → ℕ → Verdict
 Whole s c = verdictOf (tlvsFrom (length s) s 4 (emptyOf c))
 
--- Up to `at` the types in `seen` were seen: there is a record that has these, and from which the rest gives the whole verdict.
-pub record Checked (s : List ℕ) (c at : ℕ) (seen : List Bool) : Type 0 where
+-- Up to `at` the types that `row` tells were seen: there is a record that has these, and from which the rest gives the whole verdict.
+pub record Checked (s : List ℕ) (c at : ℕ) (row : List ℕ) : Type 0 where
   pub m : Message
   pub k : ℕ
-  pub command : m .command ≡ c
-  pub eight : length seen ≡ 8
-  pub told : (t : ℕ) → getD seen t false ≡ fieldOf m t .present
+  pub tells : Told c m row
   pub enough : length s ≤ at + k
   pub rest : verdictOf (tlvsFrom k s at m) ≡ Whole s c
 
-none-seen : (t : ℕ) → getD (replicate 8 false) t false ≡ false
-none-seen zero = refl
-none-seen (suc zero) = refl
-none-seen (suc (suc zero)) = refl
-none-seen (suc (suc (suc zero))) = refl
-none-seen (suc (suc (suc (suc zero)))) = refl
-none-seen (suc (suc (suc (suc (suc zero))))) = refl
-none-seen (suc (suc (suc (suc (suc (suc zero)))))) = refl
-none-seen (suc (suc (suc (suc (suc (suc (suc zero))))))) = refl
-none-seen (suc (suc (suc (suc (suc (suc (suc (suc t)))))))) = refl
-
-pub checked-start : (s : List ℕ) (c : ℕ) → Checked s c 4 (replicate 8 false)
-checked-start s c =
+pub checked-start : (s : List ℕ) (c : ℕ) (row : List ℕ) → row ≡ rolesOf c → Checked s c 4 row
+unfolding roleOf
+checked-start s c row e =
+    let none : (t : ℕ) → fieldOf (emptyOf c) t .present ≡ false = λ t. ap (λ (f : Field). f .present) (field-empty c t) in
     record {
       m = emptyOf c;
       k = length s;
-      command = command-empty c;
-      eight = refl;
-      told = λ t. none-seen t ∙ sym (ap (λ (f : Field). f .present) (field-empty c t));
+      tells =
+          record {
+            command = command-empty c;
+            eight = rw e (eight-columns c);
+            told = λ t. rw (none t, e);
+            own = λ t p. absurd (false≢true (sym (none t) ∙ p));
+          };
       enough = omega arith;
       rest = refl;
     }
 
-module _ {s : List ℕ} {c at : ℕ} {seen : List Bool} (g : Checked s c at seen) where
-  at-step : (x : Tlv) → tlvOf s at c ≡ x → tlvAt s at (g .m) ≡ stepOf at (g .m) x
-  at-step x e = tlv-step s at (g .m) ∙ ap (stepOf at (g .m)) (ap (tlvOf s at) (g .command) ∙ e)
+module _ {s : List ℕ} {c at : ℕ} {row : List ℕ} (g : Checked s c at row) where
+  at-step : (x : Tlv) → tlvIn s at row ≡ x → tlvAt s at (g .m) ≡ stepOf at (g .m) x
+  at-step x e = tlv-step (g .tells) s at ∙ ap (stepOf at (g .m)) e
 
-  pub checked-refused : (st : Status) → at < length s → tlvOf s at c ≡ tlv.Refused st → record { status = st; place = at } ≡ Whole s c
+  pub checked-refused : (st : Status) → at < length s → tlvIn s at row ≡ tlv.Refused st → record { status = st; place = at } ≡ Whole s c
   checked-refused st h e = ap verdictOf (tlvs-refused (g .k) s at (g .m) st at h (g .enough) (at-step (tlv.Refused st) e)) ∙ g .rest
 
-  module _ (t n : ℕ) (h : at < length s) (e : tlvOf s at c ≡ tlv.Right t n) where
+  module _ (t n : ℕ) (h : at < length s) (e : tlvIn s at row ≡ tlv.Right t n) where
+    pub checked-fits : Fits s at c t n
+    checked-fits = right-fits s at c (g .m) row (g .tells) t n e
+
     value : Field
     value = record { present = true; at = at + 3; len = n }
 
-    pub checked-repeated : getD seen t false ≡ true → record { status = status.TlvRepeated; place = at } ≡ Whole s c
-    checked-repeated p =
-        let f : fieldOf (g .m) t .present ≡ true = sym (g .told t) ∙ p in
-        ap verdictOf (tlvs-refused (g .k) s at (g .m) status.TlvRepeated at h (g .enough) (at-step (tlv.Right t n) e ∙ simp f)) ∙ g .rest
-
-    told-next : (u : ℕ) → getD (set seen t true) u false ≡ fieldOf (withField (g .m) t value) u .present
+    told-next : (u : ℕ) → entryOf (set row t seen) u ≡ marked (fieldOf (withField (g .m) t value) u .present) (roleOf c u)
     unfolding value
     told-next u =
-        let fits = right-fits s at c t n e in
-        let l = g .eight in
-        let small = fits .small in
+        let l = g .tells .eight in
+        let small = checked-fits .small in
         ⊎-elim
         (λ w.
-        subst (λ (i : ℕ). getD (set seen t true) i false ≡ true) (w .0) (getD-set-same seen t true false (omega arith))
-        ∙ sym (ap (λ (f : Field). f .present) (w .1)))
-        (λ w. getD-set-other seen t u true false (λ q. w .0 (sym q)) ∙ g .told u ∙ sym (ap (λ (f : Field). f .present) (w .1)))
-        (field-with (g .m) t value (fits .small) (fits .not-1) u)
+        subst (λ (i : ℕ). entryOf (set row t seen) i ≡ seen) (w .0) (getD-set-same row t seen foreign (omega arith))
+        ∙ sym (ap (λ (f : Field). marked (f .present) (roleOf c u)) (w .1)))
+        (λ w.
+        getD-set-other row t u seen foreign (λ q. w .0 (sym q)) ∙ g .tells .told u
+        ∙ sym (ap (λ (f : Field). marked (f .present) (roleOf c u)) (w .1)))
+        (field-with (g .m) t value (checked-fits .small) (checked-fits .not-1) u)
 
-    pub checked-next : getD seen t false ≡ false → Checked s c (at + 3 + n) (set seen t true)
+    own-next : (u : ℕ) → fieldOf (withField (g .m) t value) u .present ≡ true → eqb (roleOf c u) foreign ≡ false
     unfolding value
-    checked-next p =
-        let f : fieldOf (g .m) t .present ≡ false = sym (g .told t) ∙ p in
-        let known = tlvs-known (g .k) s at (g .m) (at + 3 + n) (withField (g .m) t value) h (g .enough) (at-step (tlv.Right t n) e ∙ simp f) in
+    own-next u =
+        ⊎-elim
+        (λ w p. subst (λ (i : ℕ). eqb (roleOf c i) foreign ≡ false) (w .0) (checked-fits .own))
+        (λ w p. g .tells .own u (sym (ap (λ (f : Field). f .present) (w .1)) ∙ p))
+        (field-with (g .m) t value (checked-fits .small) (checked-fits .not-1) u)
+
+    pub checked-next : Checked s c (at + 3 + n) (set row t seen)
+    unfolding value
+    checked-next =
+        let known = tlvs-known (g .k) s at (g .m) (at + 3 + n) (withField (g .m) t value) h (g .enough) (at-step (tlv.Right t n) e) in
         record {
           m = withField (g .m) t value;
           k = known .0;
-          command = command-with (g .m) t value ∙ g .command;
-          eight = simp length-set (g .eight);
-          told = told-next;
+          tells =
+              record {
+                command = command-with (g .m) t value ∙ g .tells .command;
+                eight = simp length-set (g .tells .eight);
+                told = told-next;
+                own = own-next;
+              };
           enough = known .3;
           rest = ap verdictOf (known .4) ∙ g .rest;
         }
 
   -- ---- the end
 
-  test-same : (t : ℕ) → seenIfNeeded c seen t ≡ hasNeeded (g .m) t
-  unfolding thereIfNeeded hasNeeded
-  test-same t =
-      ap (λ (i : ℕ). thereIfNeeded i t (getD seen t false)) (sym (g .command)) ∙ ap (thereIfNeeded (g .m .command) t) (g .told t)
-
-  all-same : (n : ℕ) → allBelow n (seenIfNeeded c seen) ≡ allBelow n (hasNeeded (g .m))
+  all-same : (n : ℕ) → allBelow n (notNeeded row) ≡ allBelow n (hasNeeded (g .m))
   unfolding allBelow
   all-same zero = refl
-  all-same (suc n) = rw (all-same n, test-same n)
+  all-same (suc n) = rw (all-same n, entry-needed (g .tells) n)
 
-  pub checked-complete : length s ≤ at → allBelow 8 (seenIfNeeded c seen) ≡ true → record { status = status.Accepted; place = 0 } ≡ Whole s c
+  pub checked-complete : length s ≤ at → allBelow 8 (notNeeded row) ≡ true → record { status = status.Accepted; place = 0 } ≡ Whole s c
   unfolding lastOf isComplete
   checked-complete h e =
       let f : allBelow 8 (hasNeeded (g .m)) ≡ true = sym (all-same 8) ∙ e in
@@ -174,7 +223,7 @@ module _ {s : List ℕ} {c at : ℕ} {seen : List Bool} (g : Checked s c at seen
       l ∙ ap verdictOf (tlvs-end (g .k) s at (g .m) h) ∙ g .rest
 
   pub checked-missing
-      : length s ≤ at → allBelow 8 (seenIfNeeded c seen) ≡ false → record { status = status.TlvUnexpected; place = length s } ≡ Whole s c
+      : length s ≤ at → allBelow 8 (notNeeded row) ≡ false → record { status = status.TlvUnexpected; place = length s } ≡ Whole s c
   unfolding lastOf isComplete
   checked-missing h e =
       let f : allBelow 8 (hasNeeded (g .m)) ≡ false = sym (all-same 8) ∙ e in

@@ -1,6 +1,14 @@
--- The record is short, or the reader accepts, or it refuses. Assumes nothing.
-use mathlib.Core.Path.{sym, _∙_}
+-- The record is short, or the verdict decides. Assumes nothing.
+use Prim.Native.Nat.{ℕ}
+use mathlib.Core.Path.{sym, ap, _∙_}
+use native.Mathlib.Omega.{arith}
 use denote.Ref.{now}
+use Rattle.wire.specs.Status.{numberOf}
+use Rattle.message.specs.declared.reader.Answer.the-variants as answer
+use Rattle.message.specs.declared.reader.Verdict.{Verdict}
+use Rattle.message.specs.Reading.{readMessage}
+use Rattle.message.proofs.Laws.Fields.{zero-fields}
+use Rattle.message.proofs.Laws.Reading.{other-refused}
 use Rattle.message_calls.proofs.Laws.MessageCalls.{read-short, read-answered}
 use borrow.Author.Needs.{needs}
 use Rattle.message_calls.proofs.read.Statement.{statement}
@@ -15,11 +23,27 @@ returns c =
     let a = i .before .before .before .args in
     rw (c .refuse .ensures) (read-short (now (a .bytes)) (now (a .«record»)) (i .if1 .taken))
 
-read-requires : tie.Need-read-requires
-read-requires c κs = search needs
+check-requires : tie.Need-check-requires
+check-requires c κs = search needs
 
-enum-known-message : tie.Need-enum-known-message
-enum-known-message c = search needs
+number-requires : tie.Need-number-requires
+number-requires c κs = search needs
+
+refuse-requires-2 : tie.Need-refuse-requires-2
+refuse-requires-2 c κs = search needs
+
+returns-2 : tie.Need-returns-2
+returns-2 c =
+    let n = c .before .before in
+    let k = n .before in
+    let a = k .before .before .before .before .args in
+    let e = k .check .ensures in
+    let r = ap (λ (v : Verdict). answer.Refused (v .status) (v .place)) e
+    ∙ other-refused (readMessage (now (a .bytes))) (λ z. c .before .if2 .taken (n .number .ensures ∙ ap (λ (v : Verdict). numberOf (v .status)) e ∙ z)) in
+    rw (c .refuse2 .ensures) (read-answered (now (a .bytes)) (now (a .«record»)) _ (k .before .if1 .left) (sym r))
+
+fields-requires : tie.Need-fields-requires
+fields-requires c κs = search needs
 
 write-requires : tie.Need-write-requires
 write-requires c κs = search needs
@@ -27,31 +51,21 @@ write-requires c κs = search needs
 accept-requires : tie.Need-accept-requires
 accept-requires c κs = search needs
 
-enum-known-status : tie.Need-enum-known-status
-enum-known-status c = search needs
-
-refuse-requires-2 : tie.Need-refuse-requires-2
-refuse-requires-2 c κs = search needs
-
 same-length : tie.Need-same-length
 same-length c = search needs
 
-returns-2 : tie.Need-returns-2
-returns-2 c =
-    let w = c .before .before .before in
-    let m = w .before .before .before in
-    let r = m .before .before in
-    let i = r .before in
-    let a = i .before .before .before .args in
-    rw (c .accept .ensures, w .write .ensures) (read-answered (now (a .bytes)) (now (a .«record»)) _ (i .if1 .left) (sym (r .read .ensures) ∙ m .message .given .1))
-
 returns-3 : tie.Need-returns-3
 returns-3 c =
-    let m = c .before .before in
-    let r = m .before .before in
-    let i = r .before in
-    let a = i .before .before .before .args in
-    rw (c .refuse2 .ensures) (read-answered (now (a .bytes)) (now (a .«record»)) _ (i .if1 .left) (sym (r .read .ensures) ∙ m .status .given .1))
+    let w = c .before .before .before in
+    let f = w .before in
+    let n = f .before .before .before in
+    let k = n .before in
+    let known = k .before .before .before in
+    let a = known .before .args in
+    let z = ap (λ (v : Verdict). numberOf (v .status)) (sym (k .check .ensures)) ∙ sym (n .number .ensures) ∙ f .before .before .if2 .left in
+    rw (c .accept .ensures, w .write .ensures, f .fields .ensures)
+    (read-answered (now (a .bytes)) (now (a .«record»)) _ (k .before .if1 .left)
+    (zero-fields (now (a .bytes)) (λ (i : ℕ). omega (arith, known .shared-slice-known .given i)) z))
 
 pub read-spec : {M : Type 1} → statement M
 read-spec =
@@ -59,12 +73,12 @@ read-spec =
     (tie.spec
     refuse-requires
     returns
-    read-requires
-    enum-known-message
+    check-requires
+    number-requires
+    refuse-requires-2
+    returns-2
+    fields-requires
     write-requires
     accept-requires
-    enum-known-status
-    refuse-requires-2
     same-length
-    returns-2
     returns-3)

@@ -8,7 +8,7 @@ use native.Mathlib.Decide.{decLt}
 use borrow.Author.Tests.{lt-ltb, le-ltb, ltb-false, leb-false}
 use lib.Dec.{ltb, T}
 use lib.IntN.{ℤ, pos, negsuc, natAbs}
-use lib.ListN.{length}
+use lib.ListN.{length, length-drop}
 use lib.Signed.{leZ, nonNeg}
 use mir.Syntax.{w32, w64}
 use mir.Val.{Fits, SFits}
@@ -21,7 +21,7 @@ use Rattle.packet.specs.declared.fragment.FragmentAnswer.the-variants.{A
 use Rattle.packet.specs.Checks.{refuse, firstOf, accepted, refusing}
 use Rattle.packet.specs.Frame.{frameChecks}
 use Rattle.packet.specs.Fragment.{isStart, headerOf, imageData, offsetOf, outside, fragmentFrame, fragmentChecks, startFragment, continuationFragment, fragmentOf, fragmentStatus, dataOf, readFragment, OffsetKept, DataInside}
-use Rattle.packet.specs.Continuation.{placeOf}
+use Rattle.packet.specs.Continuation.{continuationOf, placeOf}
 use Rattle.packet.proofs.Laws.Checks.{first-append}
 
 -- more data than the total
@@ -43,6 +43,22 @@ outside-beyond (pos o) n t e h =
       | no l ↦ le-ltb (t - n) o (omega arith) ∙ sym (le-ltb t (o + n) (omega arith))
     ]
 outside-beyond (negsuc k) n t e h = let bad : _≡_ {A = ℕ} 0 1 = cc in absurd (let no : ⊥ = omega arith in no)
+
+-- the data's length by PacketMsgSize, where that is the packet's own size
+data-length : (starts : Bool) (p : List ℕ) (size : ℕ) → length p ≡ 12 + size → length (imageData starts p) ≡ size - headerOf starts
+unfolding imageData
+data-length starts p size e = length-drop (12 + headerOf starts) p ∙ rw e (let m : (12 + size) - (12 + headerOf starts) ≡ size - headerOf starts = omega arith in m)
+
+pub start-outside
+    : (p : List ℕ) (size t : ℕ) → length p ≡ 12 + size → outside (offsetOf true p) (length (imageData true p)) t ≡ ltb t (size - 18)
+unfolding outside offsetOf headerOf
+start-outside p size t e = rw (data-length true p size e) (ap (ltb t) (let n : 0 + (size - 18) ≡ size - 18 = omega arith in n))
+
+pub continuation-outside
+    : (p : List ℕ) (size t : ℕ) → length p ≡ 12 + size
+    → outside (offsetOf false p) (length (imageData false p)) t ≡ outside (continuationOf p .offset) (size - 13) t
+unfolding offsetOf headerOf
+continuation-outside p size t e = rw (data-length false p size e)
 
 pub place-is : (z : ℤ) → leZ (pos 0) z ≡ true → natAbs z ≡ placeOf z
 unfolding placeOf

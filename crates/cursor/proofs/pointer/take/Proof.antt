@@ -1,22 +1,31 @@
 -- The packet is refused, or it is not newer, or the pointer moves. Assumes nothing.
-use mathlib.Core.Path.{sym, _∙_}
+use mathlib.Core.Path.{sym, ap, _∙_}
 use denote.Ref.{now}
-use borrow.Author.Needs.{needs}
 use mir.Syntax.{w16}
 use mir.Val.{SFits}
 use mir.ValLaws.{toZ-ofZ}
+use borrow.Author.Tests.{eq-eqb, ne-eqb}
+use Rattle.packet.specs.Checks.{accepted}
 use Rattle.cursor.proofs.Laws.Pointer.{moved-refused, moved-late, moved-moves}
+use borrow.Author.Needs.{needs}
 use Rattle.cursor.proofs.pointer.take.Statement.{statement}
 use Rattle.cursor.proofs.pointer.take.Tie as tie
 
-read-requires : tie.Need-read-requires
-read-requires c κs = search needs
+check-requires : tie.Need-check-requires
+check-requires c κs = search needs
 
-enum-known-status : tie.Need-enum-known-status
-enum-known-status c = search needs
+number-requires : tie.Need-number-requires
+number-requires c κs = search needs
 
-enum-known-position : tie.Need-enum-known-position
-enum-known-position c = search needs
+returns : tie.Need-returns
+returns c =
+    let n = c .before in
+    let k = n .before in
+    let a = k .before .before .args in
+    rw (k .check .ensures) (sym (moved-refused (a .pointer) (now (a .packet)) (ap accepted (sym (k .check .ensures)) ∙ ne-eqb _ 0 (λ e. c .if1 .taken (n .number .ensures ∙ e)))))
+
+fields-requires : tie.Need-fields-requires
+fields-requires c κs = search needs
 
 newer-requires : tie.Need-newer-requires
 newer-requires c κs = search needs
@@ -24,44 +33,40 @@ newer-requires c κs = search needs
 moved-requires : tie.Need-moved-requires
 moved-requires c κs = search needs
 
-returns : tie.Need-returns
-returns c =
-    let g = c .before in
-    let r = g .before .before in
-    let a = r .before .before .args in
-    sym (moved-refused (a .pointer) (now (a .packet)) _ _ (sym (r .read .ensures) ∙ g .status .given .1))
-
-told : (c : tie.After-known-told2) → SFits w16 (c .before .position .given .0 .0 .x) × SFits w16 (c .before .position .given .0 .0 .y)
-told c = (search needs, search needs)
+fits : (c : tie.After-fields) → SFits w16 (c .fields .result .x) × SFits w16 (c .fields .result .y)
+fits c = (search needs, search needs)
 
 returns-2 : tie.Need-returns-2
 returns-2 c =
     let i = c .before .before .before in
-    let n = i .before in
-    let g = n .before .before in
-    let r = g .before .before in
-    let a = r .before .before .args in
-    let x = g .position .given .0 .0 in
-    rw (c .moved .ensures, toZ-ofZ w16 (x .x) (told (n .before) .0), toZ-ofZ w16 (x .y) (told (n .before) .1))
-    (sym (moved-moves (a .pointer) (now (a .packet)) x (sym (r .read .ensures) ∙ g .position .given .1) (sym (n .newer .ensures) ∙ i .if1 .taken)))
+    let w = i .before in
+    let f = w .before in
+    let n = f .before .before in
+    let k = n .before in
+    let a = k .before .before .args in
+    let x = toZ-ofZ w16 (f .fields .result .x) (fits f .0) in
+    let y = toZ-ofZ w16 (f .fields .result .y) (fits f .1) in
+    rw (c .moved .ensures, x, y, f .fields .ensures)
+    (sym (moved-moves (a .pointer) (now (a .packet)) (ap accepted (sym (k .check .ensures)) ∙ eq-eqb _ 0 (sym (n .number .ensures) ∙ f .before .if1 .left)) (rw (← f .fields .ensures) (sym (w .newer .ensures) ∙ i .if2 .taken))))
 
 returns-3 : tie.Need-returns-3
 returns-3 c =
-    let n = c .before in
-    let g = n .before .before in
-    let r = g .before .before in
-    let a = r .before .before .args in
-    sym (moved-late (a .pointer) (now (a .packet)) _ (sym (r .read .ensures) ∙ g .position .given .1) (sym (n .newer .ensures) ∙ c .if1 .left))
+    let w = c .before in
+    let f = w .before in
+    let n = f .before .before in
+    let k = n .before in
+    let a = k .before .before .args in
+    sym (moved-late (a .pointer) (now (a .packet)) (ap accepted (sym (k .check .ensures)) ∙ eq-eqb _ 0 (sym (n .number .ensures) ∙ f .before .if1 .left)) (rw (← f .fields .ensures) (sym (w .newer .ensures) ∙ c .if2 .left)))
 
 pub take-spec : {M : Type 1} → statement M
 take-spec =
     tie.close
     (tie.spec
-    read-requires
-    enum-known-status
-    enum-known-position
+    check-requires
+    number-requires
+    returns
+    fields-requires
     newer-requires
     moved-requires
-    returns
     returns-2
     returns-3)

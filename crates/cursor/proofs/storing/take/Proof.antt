@@ -1,13 +1,14 @@
--- A refusal, or the four effects. Assumes nothing.
+-- A refusal, or the three effects. Assumes nothing.
 use mathlib.Core.Path.{sym, ap, _∙_}
 use native.Mathlib.Omega.{arith}
 use lib.ListN.{length}
 use denote.Ref.{now}
 use borrow.Author.Tests.{eq-eqb, ne-eqb}
-use borrow.Author.Needs.{needs}
 use Rattle.packet.specs.Checks.{accepted}
-use Rattle.cursor.specs.Storing.{taken, outcome, imageAfter, marksAfter, pictureAfter}
+use Rattle.cursor.specs.Storing.{imageAfter, marksAfter, pictureAfter}
+use Rattle.cursor.specs.Assembling.{fragmentAssembled, assembledAs}
 use Rattle.cursor.proofs.Laws.Judging.{room-says, judged-room}
+use borrow.Author.Needs.{needs}
 use Rattle.cursor.proofs.storing.take.Statement.{statement}
 use Rattle.cursor.proofs.storing.take.Tie as tie
 
@@ -24,7 +25,7 @@ same-length-2 : tie.Need-same-length-2
 same-length-2 c = search needs
 
 returns : tie.Need-returns
-unfolding taken outcome
+unfolding fragmentAssembled assembledAs
 returns c = let n = c .before in simp (← n .before .judge .ensures, ← n .number .ensures, ne-eqb _ _ (c .if1 .taken))
 
 open-for-requires : tie.Need-open-for-requires
@@ -46,9 +47,6 @@ put-requires c κs =
     let r = room-says (a .fragment .total) (length (now (a .image))) (length (now (a .marks))) h in
     (omega (arith, r .0, s .pre), omega (arith, r .1, s .pre))
 
-moved-by-requires : tie.Need-moved-by-requires
-moved-by-requires c κs = search needs
-
 with-start-requires : tie.Need-with-start-requires
 with-start-requires c κs = search needs
 
@@ -59,14 +57,14 @@ same-length-4 : tie.Need-same-length-4
 same-length-4 c = search needs
 
 returns-2 : tie.Need-returns-2
-unfolding taken outcome imageAfter marksAfter pictureAfter
+unfolding fragmentAssembled assembledAs imageAfter marksAfter pictureAfter
 returns-2 c =
-    let p = c .before .before .before .before .before .before in
+    let p = c .before .before .before .before .before in
     let o = p .before .before .before .before .before in
     let n = o .before .before .before in
     let j = n .before in
     simp (ap accepted (sym (j .judge .ensures)) ∙ eq-eqb _ 0 (sym (n .number .ensures) ∙ o .before .before .if1 .left))
-    (rw (c .moved-by .ensures, c .before .with-start .ensures, p .put .ensures .0, p .put .ensures .1, o .open-for .ensures .0, o .open-for .ensures .1))
+    (rw (c .with-start .ensures, p .put .ensures .0, p .put .ensures .1, o .open-for .ensures .0, o .open-for .ensures .1, j .judge .ensures))
 
 pub take-spec : {M : Type 1} → statement M
 take-spec =
@@ -80,7 +78,6 @@ take-spec =
     open-for-requires
     put-requires
     with-start-requires
-    moved-by-requires
     same-length-3
     same-length-4
     returns-2)

@@ -5,26 +5,33 @@ use native.Mathlib.Omega.{arith}
 use borrow.Author.Needs.{needs}
 use denote.Ref.{now}
 use lib.ListN.{length}
-use Rattle.message.proofs.Laws.Checking.{Checked, Fits, right-fits, checked-start, checked-refused, checked-repeated, checked-next}
-use Rattle.message.proofs.Laws.Checking.{checked-complete, checked-missing}
+use Rattle.message.proofs.Laws.Checking.{Checked, Fits, checked-start, checked-fits, checked-refused, checked-next, checked-complete, checked-missing}
 use Rattle.message.proofs.reader.check_tlvs.Statement.{statement}
 use Rattle.message.proofs.reader.check_tlvs.Tie as tie
 
 abbrev Inv-loop : tie.InvT-loop
-Inv-loop bytes command at₀ seen₀ at seen = Checked bytes command at seen
+Inv-loop bytes command at₀ row₀ at row = Checked bytes command at row
 
 abbrev μ-loop : tie.MeasureT-loop
-μ-loop bytes command at₀ seen₀ at seen = length bytes - at
+μ-loop bytes command at₀ row₀ at row = length bytes - at
 
 -- the TLV that was found lies within the bytes, and its type is below 8
 fits
     : (c : tie.After-known-told Inv-loop μ-loop)
-    → Fits (now (c .before .before .before .before .before .before .before .args .bytes)) (c .before .before .before .before .before .loop .at)
-    (c .before .kind .given .0 .0) (c .before .kind .given .0 .1 .0)
-fits c = right-fits _ _ _ _ _ (sym (c .before .before .before .check-tlv .ensures) ∙ c .before .kind .given .1)
+    → Fits (now (c .before .before .before .before .before .before .before .before .before .args .bytes)) (c .before .before .before .before .before .before .loop .at) (c .before .before .before .before .before .before .before .before .before .args .command) (c .before .kind .given .0 .0) (c .before .kind .given .0 .1 .0)
+fits c =
+    let k = c .before .before .before in
+    let l = k .before .before .before in
+    checked-fits (l .loop .inv) _ _ (k .before .before .loop-test .taken) (sym (k .check-tlv .ensures) ∙ c .before .kind .given .1)
+
+roles-of-requires : tie.Need-roles-of-requires Inv-loop μ-loop
+roles-of-requires c κs = search needs
 
 loop-holds : tie.Need-loop-holds Inv-loop μ-loop
-loop-holds c = checked-start _ _
+loop-holds c = checked-start _ _ _ (c .roles-of .ensures)
+
+slice-aggregate-check-tlv : tie.Need-slice-aggregate-check-tlv Inv-loop μ-loop
+slice-aggregate-check-tlv c = search needs
 
 check-tlv-requires : tie.Need-check-tlv-requires Inv-loop μ-loop
 check-tlv-requires c κs = omega arith
@@ -32,64 +39,48 @@ check-tlv-requires c κs = omega arith
 enum-known-kind : tie.Need-enum-known-kind Inv-loop μ-loop
 enum-known-kind c = search needs
 
-cast-if1 : tie.Need-cast-if1 Inv-loop μ-loop
-cast-if1 c = omega (arith, fits c .small)
+cast-row : tie.Need-cast-row Inv-loop μ-loop
+cast-row c = omega (arith, fits c .small)
 
-array-read-if1 : tie.Need-array-read-if1 Inv-loop μ-loop
-array-read-if1 c = omega (arith, fits c .small, c .before .before .before .before .before .loop .inv .eight)
-
-returns : tie.Need-returns Inv-loop μ-loop
-returns c =
-    let l = c .before .before .before .before .before .before .loop in
-    let loop-test = c .before .before .before .before .before .loop-test in
-    let e = sym (c .before .before .before .before .check-tlv .ensures) ∙ c .before .before .kind .given .1 in
-    checked-repeated (l .inv) _ _ (loop-test .taken) e (c .if1 .taken)
-
-cast-seen : tie.Need-cast-seen Inv-loop μ-loop
-cast-seen c = omega (arith, fits (c .before) .small)
-
-array-write-seen : tie.Need-array-write-seen Inv-loop μ-loop
-array-write-seen c = omega (arith, fits (c .before) .small, c .before .before .before .before .before .before .loop .inv .eight)
+array-write-row : tie.Need-array-write-row Inv-loop μ-loop
+array-write-row c = omega (arith, fits c .small, c .before .before .before .before .before .before .loop .inv .tells .eight)
 
 add-at : tie.Need-add-at Inv-loop μ-loop
-add-at c = omega (arith, fits (c .before) .whole)
+add-at c = omega (arith, fits c .whole)
 
 add-at-2 : tie.Need-add-at-2 Inv-loop μ-loop
-add-at-2 c = omega (arith, fits (c .before) .whole)
+add-at-2 c = omega (arith, fits c .whole)
 
 loop-less : tie.Need-loop-less Inv-loop μ-loop
-loop-less c = omega (arith, fits (c .before) .whole)
+loop-less c = omega (arith, fits c .whole)
 
 loop-again : tie.Need-loop-again Inv-loop μ-loop
 loop-again c =
-    let l = c .before .before .before .before .before .before .loop in
-    let loop-test = c .before .before .before .before .before .loop-test in
-    let e = sym (c .before .before .before .before .check-tlv .ensures) ∙ c .before .before .kind .given .1 in
-    checked-next (l .inv) _ _ (loop-test .taken) e (c .if1 .left)
+    let k = c .before .before .before in
+    let l = k .before .before .before in
+    checked-next (l .loop .inv) _ _ (k .before .before .loop-test .taken) (sym (k .check-tlv .ensures) ∙ c .before .kind .given .1)
 
 enum-known-status : tie.Need-enum-known-status Inv-loop μ-loop
 enum-known-status c = search needs
 
+returns : tie.Need-returns Inv-loop μ-loop
+returns c =
+    let k = c .before .before .before in
+    let l = k .before .before .before in
+    checked-refused (l .loop .inv) _ (k .before .before .loop-test .taken) (sym (k .check-tlv .ensures) ∙ c .before .status .given .1)
+
+none-needed-requires : tie.Need-none-needed-requires Inv-loop μ-loop
+none-needed-requires c κs = search needs
+
 returns-2 : tie.Need-returns-2 Inv-loop μ-loop
 returns-2 c =
-    let l = c .before .before .before .before .before .loop in
-    let loop-test = c .before .before .before .before .loop-test in
-    checked-refused (l .inv) _ (loop-test .taken) (sym (c .before .before .before .check-tlv .ensures) ∙ c .before .status .given .1)
-
-all-needed-requires : tie.Need-all-needed-requires Inv-loop μ-loop
-all-needed-requires c κs = search needs
+    let t = c .before .before .before in
+    checked-complete (t .before .loop .inv) (t .loop-test .left) (sym (c .before .none-needed .ensures) ∙ c .if1 .taken)
 
 returns-3 : tie.Need-returns-3 Inv-loop μ-loop
 returns-3 c =
-    let l = c .before .before .before .before .loop in
-    let loop-test = c .before .before .before .loop-test in
-    checked-complete (l .inv) (loop-test .left) (sym (c .before .all-needed .ensures) ∙ c .if2 .taken)
-
-returns-4 : tie.Need-returns-4 Inv-loop μ-loop
-returns-4 c =
-    let l = c .before .before .before .before .loop in
-    let loop-test = c .before .before .before .loop-test in
-    checked-missing (l .inv) (loop-test .left) (sym (c .before .all-needed .ensures) ∙ c .if2 .left)
+    let t = c .before .before .before in
+    checked-missing (t .before .loop .inv) (t .loop-test .left) (sym (c .before .none-needed .ensures) ∙ c .if1 .left)
 
 pub check-tlvs-spec : {M : Type 1} → statement M
 check-tlvs-spec =
@@ -97,20 +88,19 @@ check-tlvs-spec =
     (tie.spec
     Inv-loop
     μ-loop
+    roles-of-requires
     loop-holds
+    slice-aggregate-check-tlv
     check-tlv-requires
     enum-known-kind
-    cast-if1
-    array-read-if1
-    returns
-    cast-seen
-    array-write-seen
+    cast-row
+    array-write-row
     add-at
     add-at-2
     loop-less
     loop-again
     enum-known-status
+    returns
+    none-needed-requires
     returns-2
-    all-needed-requires
-    returns-3
-    returns-4)
+    returns-3)

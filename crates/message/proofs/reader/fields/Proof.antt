@@ -1,30 +1,30 @@
--- What is still to be read, from the present place and record, gives what reading gives; it is accepted, so the next TLV is right.
--- Assumes nothing.
+-- What is still to be walked over, from the present place and record, gives what the whole walk gives. Assumes nothing.
 use Prim.Native.Nat.{ℕ, _≤_, _<_, _+_, _-_}
 use mathlib.Core.Path.{_≡_, sym, ap, _∙_, subst}
 use mathlib.Core.Bool.{true}
 use mathlib.Core.List.{List}
 use native.Mathlib.Omega.{arith}
 use borrow.Author.Needs.{needs}
-use borrow.Author.Tests.{ne-eqb}
+use borrow.Author.Tests.{ne-eqb, lt-ltb, le-ltb}
 use denote.Ref.{now}
 use lib.ListN.{length}
 use Rattle.message.specs.declared.record.Message.{Message}
-use Rattle.message.specs.Record.{withField}
-use Rattle.message.specs.Reading.{typeAt, tlvsFrom, readMessage}
-use Rattle.message.proofs.Laws.Reading.{accepted-headed, headed-short, headed-read, tlvs-accepted, tlvs-end, last-accepted}
+use Rattle.message.specs.Record.{withField, emptyOf}
+use Rattle.message.specs.Reading.{commandIn, typeAt}
+use Rattle.message.specs.Fields.{walkedFrom, fieldsOf}
+use Rattle.message.proofs.Laws.Fields.{walk-next, walk-end}
 use Rattle.message.proofs.reader.fields.Statement.{statement}
 use Rattle.message.proofs.reader.fields.Tie as tie
 
 abbrev Inv-loop : tie.InvT-loop
-Inv-loop bytes at₀ message₀ at message = (k : ℕ) × (length bytes ≤ at + k) × (tlvsFrom k bytes at message ≡ readMessage bytes)
+Inv-loop bytes at₀ message₀ at message = (k : ℕ) × (length bytes ≤ at + k) × (walkedFrom k bytes at message ≡ walkedFrom (length bytes) bytes 4 (emptyOf (commandIn bytes)))
 
 abbrev μ-loop : tie.MeasureT-loop
 μ-loop bytes at₀ message₀ at message = length bytes - at
 
 -- the bytes, the place after the TLV, and the record with its value, whose length is n
 abbrev S : tie.After-u16-at Inv-loop μ-loop → List ℕ
-S c = now (c .before .before .before .before .before .before .before .args .bytes)
+S c = now (c .before .before .before .before .before .before .before .before .before .args .bytes)
 
 abbrev Next : tie.After-u16-at Inv-loop μ-loop → ℕ → ℕ
 Next c n = c .before .before .before .loop .at + 3 + n
@@ -34,43 +34,51 @@ With c n =
     let l = c .before .before .before .loop in withField (l .message) (typeAt (S c) (l .at)) (record { present = true; at = l .at + 3; len = n })
 
 abbrev Found : tie.After-u16-at Inv-loop μ-loop → ℕ → Type 0
-Found c n = (Next c n ≤ length (S c)) × Inv-loop (S c) 4 (With c n) (Next c n) (With c n)
+Found c n = Inv-loop (S c) 4 (With c n) (Next c n) (With c n)
 
 found : (c : tie.After-u16-at Inv-loop μ-loop) → Found c (c .u16-at .result)
 found c =
     let l = c .before .before .before .loop in
-    let loop-test = c .before .before .loop-test in
-    let pre = c .before .before .before .before .before .before .before .pre in
-    let t = tlvs-accepted (l .inv .0) (S c) (l .at) (l .message) (pre .0) (loop-test .taken) (l .inv .1) (l .inv .2 ∙ pre .1) in
-    subst (Found c) (sym (c .u16-at .ensures)) (t .0 .whole, (t .1, t .2, t .3 ∙ l .inv .2))
+    let w = walk-next (l .inv .0) (S c) (l .at) (l .message) (c .before .before .loop-test .taken) (l .inv .1) in
+    subst (Found c) (sym (c .u16-at .ensures)) (w .0, w .1, w .2 ∙ l .inv .2)
 
--- the next place is past this one, and Size holds it
-goes-on
+-- the place is within the bytes, which Size could count, and so is the length
+bounds
     : (c : tie.After-u16-at Inv-loop μ-loop)
-    → (c .before .before .before .loop .at < Next c (c .u16-at .result)) × (Next c (c .u16-at .result) ≤ length (S c)) × (length (S c) ≤ 65535)
-goes-on c =
-    let pre = c .before .before .before .before .before .before .before .pre in
-    let known = c .before .before .before .before .before .before .shared-slice-known in
-    (omega arith, found c .0, headed-short (S c) (λ (k : ℕ). omega (arith, known .given k)) (accepted-headed (S c) (pre .0) (pre .1)))
+    → (c .before .before .before .loop .at < length (S c)) × (length (S c) ≤ 65535) × (c .u16-at .result ≤ 65535)
+bounds c = (c .before .before .loop-test .taken, c .before .before .before .before .before .before .if2 .left, omega arith)
 
 -- a record with the value in the field of its type is the one with the value
 again : (c : tie.After-u16-at Inv-loop μ-loop) (m : Message) → m ≡ With c (c .u16-at .result) → Inv-loop (S c) 4 m (Next c (c .u16-at .result)) m
 again c m e =
-    let n = c .u16-at .result in subst (λ (x : Message). Inv-loop (S c) 4 x (Next c n) x) (sym e) (found c .1)
-
-shared-slice-read-empty : tie.Need-shared-slice-read-empty Inv-loop μ-loop
-shared-slice-read-empty c =
-    let pre = c .before .before .pre in let h = accepted-headed _ (pre .0) (pre .1) .four in omega arith
+    let n = c .u16-at .result in subst (λ (x : Message). Inv-loop (S c) 4 x (Next c n) x) (sym e) (found c)
 
 empty-requires : tie.Need-empty-requires Inv-loop μ-loop
 empty-requires c κs = search needs
 
+returns : tie.Need-returns Inv-loop μ-loop
+unfolding fieldsOf
+returns c = c .empty .ensures ∙ simp (lt-ltb (length (now (c .before .before .before .args .bytes))) 4 (omega arith))
+
+empty-requires-2 : tie.Need-empty-requires-2 Inv-loop μ-loop
+empty-requires-2 c κs = search needs
+
+returns-2 : tie.Need-returns-2 Inv-loop μ-loop
+unfolding fieldsOf
+returns-2 c =
+    let s = now (c .before .before .before .before .args .bytes) in
+    c .empty2 .ensures ∙ simp (le-ltb (length s) 4 (omega arith), lt-ltb 65535 (length s) (c .before .if2 .taken))
+
+shared-slice-read-empty : tie.Need-shared-slice-read-empty Inv-loop μ-loop
+shared-slice-read-empty c = omega arith
+
+empty-requires-3 : tie.Need-empty-requires-3 Inv-loop μ-loop
+empty-requires-3 c κs = search needs
+
 loop-holds : tie.Need-loop-holds Inv-loop μ-loop
 loop-holds c =
-    let start = c .before .before .before in
-    let s = now (start .args .bytes) in
-    let h = accepted-headed s (start .pre .0) (start .pre .1) in
-    (length s, omega arith, ap (tlvsFrom (length s) s 4) (c .empty .ensures) ∙ sym (headed-read s h))
+    let s = now (c .before .before .before .before .before .args .bytes) in
+    (length s, omega arith, ap (walkedFrom (length s) s 4) (c .empty3 .ensures))
 
 shared-slice-read-kind : tie.Need-shared-slice-read-kind Inv-loop μ-loop
 shared-slice-read-kind c = omega arith
@@ -81,75 +89,75 @@ add-u16-at c = omega arith
 u16-at-requires : tie.Need-u16-at-requires Inv-loop μ-loop
 u16-at-requires c κs = search needs
 
-add-t9 : tie.Need-add-t9 Inv-loop μ-loop
-add-t9 c = omega (arith, goes-on c)
+add-t11 : tie.Need-add-t11 Inv-loop μ-loop
+add-t11 c = omega (arith, bounds c)
 
-cast-t13 : tie.Need-cast-t13 Inv-loop μ-loop
-cast-t13 c = omega (arith, goes-on c)
+cast-t15 : tie.Need-cast-t15 Inv-loop μ-loop
+cast-t15 c = omega (arith, bounds c)
 
-cast-t14 : tie.Need-cast-t14 Inv-loop μ-loop
-cast-t14 c = omega (arith, goes-on c)
+cast-t16 : tie.Need-cast-t16 Inv-loop μ-loop
+cast-t16 c = omega (arith, bounds c)
 
 add-at : tie.Need-add-at Inv-loop μ-loop
-add-at c = omega (arith, goes-on c)
+add-at c = omega (arith, bounds c)
 
 cast-at : tie.Need-cast-at Inv-loop μ-loop
-cast-at c = omega (arith, goes-on c)
+cast-at c = omega (arith, bounds c)
 
 add-at-2 : tie.Need-add-at-2 Inv-loop μ-loop
-add-at-2 c = omega (arith, goes-on c)
+add-at-2 c = omega (arith, bounds c)
 
 loop-less : tie.Need-loop-less Inv-loop μ-loop
-loop-less c = omega (arith, goes-on (c .before))
+loop-less c = omega (arith, bounds (c .before))
 
 loop-again : tie.Need-loop-again Inv-loop μ-loop
 unfolding withField
 loop-again c = again (c .before) _ (rw (c .match .keys1))
 
 loop-less-2 : tie.Need-loop-less-2 Inv-loop μ-loop
-loop-less-2 c = omega (arith, goes-on (c .before))
+loop-less-2 c = omega (arith, bounds (c .before))
 
 loop-again-2 : tie.Need-loop-again-2 Inv-loop μ-loop
 unfolding withField
 loop-again-2 c = again (c .before) _ (rw (c .match .keys2))
 
 loop-less-3 : tie.Need-loop-less-3 Inv-loop μ-loop
-loop-less-3 c = omega (arith, goes-on (c .before))
+loop-less-3 c = omega (arith, bounds (c .before))
 
 loop-again-3 : tie.Need-loop-again-3 Inv-loop μ-loop
 unfolding withField
 loop-again-3 c = again (c .before) _ (rw (c .match .keys3))
 
 loop-less-4 : tie.Need-loop-less-4 Inv-loop μ-loop
-loop-less-4 c = omega (arith, goes-on (c .before))
+loop-less-4 c = omega (arith, bounds (c .before))
 
 loop-again-4 : tie.Need-loop-again-4 Inv-loop μ-loop
 unfolding withField
 loop-again-4 c = again (c .before) _ (rw (c .match .keys4))
 
 loop-less-5 : tie.Need-loop-less-5 Inv-loop μ-loop
-loop-less-5 c = omega (arith, goes-on (c .before))
+loop-less-5 c = omega (arith, bounds (c .before))
 
 loop-again-5 : tie.Need-loop-again-5 Inv-loop μ-loop
 unfolding withField
 loop-again-5 c = again (c .before) _ (rw (c .match .keys5))
 
 loop-less-6 : tie.Need-loop-less-6 Inv-loop μ-loop
-loop-less-6 c = omega (arith, goes-on (c .before))
+loop-less-6 c = omega (arith, bounds (c .before))
 
 loop-again-6 : tie.Need-loop-again-6 Inv-loop μ-loop
 unfolding withField
 loop-again-6 c = again (c .before) _ (rw (c .match .keys6))
 
 loop-less-7 : tie.Need-loop-less-7 Inv-loop μ-loop
-loop-less-7 c = omega (arith, goes-on (c .before))
+loop-less-7 c = omega (arith, bounds (c .before))
 
 loop-again-7 : tie.Need-loop-again-7 Inv-loop μ-loop
 unfolding withField
 loop-again-7 c = again (c .before) _ (rw (c .match .keys7))
 
 loop-less-8 : tie.Need-loop-less-8 Inv-loop μ-loop
-loop-less-8 c = omega (arith, goes-on (c .before))
+loop-less-8 c = omega (arith, bounds (c .before))
 
 loop-again-8 : tie.Need-loop-again-8 Inv-loop μ-loop
 unfolding withField
@@ -165,12 +173,14 @@ loop-again-8 c =
       ne-eqb _ _ (r .0 .0 .0 .0 .0 .0 .1),
     ))
 
-returns : tie.Need-returns Inv-loop μ-loop
-returns c =
+returns-3 : tie.Need-returns-3 Inv-loop μ-loop
+unfolding fieldsOf
+returns-3 c =
     let l = c .before .loop in
-    let pre = c .before .before .before .before .before .pre in
-    let end = tlvs-end (l .inv .0) _ (l .at) (l .message) (c .loop-test .left) ∙ l .inv .2 in
-    last-accepted _ (l .message) (pre .0) (end ∙ pre .1) ∙ end
+    let i = c .before .before .before .before in
+    let s = now (i .before .before .before .args .bytes) in
+    walk-end (l .inv .0) _ (l .at) (l .message) (c .loop-test .left) ∙ l .inv .2
+    ∙ simp (le-ltb (length s) 4 (omega arith), le-ltb 65535 (length s) (i .if2 .left))
 
 pub fields-spec : {M : Type 1} → statement M
 fields-spec =
@@ -178,15 +188,19 @@ fields-spec =
     (tie.spec
     Inv-loop
     μ-loop
-    shared-slice-read-empty
     empty-requires
+    returns
+    empty-requires-2
+    returns-2
+    shared-slice-read-empty
+    empty-requires-3
     loop-holds
     shared-slice-read-kind
     add-u16-at
     u16-at-requires
-    add-t9
-    cast-t13
-    cast-t14
+    add-t11
+    cast-t15
+    cast-t16
     add-at
     cast-at
     add-at-2
@@ -206,4 +220,4 @@ fields-spec =
     loop-again-7
     loop-less-8
     loop-again-8
-    returns)
+    returns-3)

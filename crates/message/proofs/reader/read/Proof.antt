@@ -1,12 +1,15 @@
 -- The verdict's number is 0 exactly where the message is accepted. Assumes nothing.
+use Prim.Native.Nat.{ℕ}
 use mathlib.Core.Path.{sym, ap, _∙_}
+use native.Mathlib.Omega.{arith}
 use borrow.Author.Needs.{needs}
 use denote.Ref.{now}
 use Rattle.wire.specs.Status.{numberOf}
 use Rattle.message.specs.declared.reader.Answer.the-variants as answer
 use Rattle.message.specs.declared.reader.Verdict.{Verdict}
 use Rattle.message.specs.Reading.{readMessage}
-use Rattle.message.proofs.Laws.Reading.{zero-accepted, other-refused}
+use Rattle.message.proofs.Laws.Fields.{zero-fields}
+use Rattle.message.proofs.Laws.Reading.{other-refused}
 use Rattle.message.proofs.reader.read.Statement.{statement}
 use Rattle.message.proofs.reader.read.Tie as tie
 
@@ -17,13 +20,15 @@ number-requires : tie.Need-number-requires
 number-requires c κs = search needs
 
 fields-requires : tie.Need-fields-requires
-fields-requires c κs =
-    let checked = c .before .before .check in
-    let s = now (c .before .before .before .before .args .bytes) in
-    zero-accepted s (ap (λ (v : Verdict). numberOf (v .status)) (sym (checked .ensures)) ∙ sym (c .before .number .ensures) ∙ c .if1 .taken)
+fields-requires c κs = search needs
 
 returns : tie.Need-returns
-returns c = c .fields .ensures
+returns c =
+    let n = c .before .before in
+    let known = n .before .before in
+    let s = now (known .before .args .bytes) in
+    let z = ap (λ (v : Verdict). numberOf (v .status)) (sym (n .before .check .ensures)) ∙ sym (n .number .ensures) ∙ c .before .if1 .taken in
+    ap answer.Accepted (c .fields .ensures) ∙ sym (zero-fields s (λ (k : ℕ). omega (arith, known .shared-slice-known .given k)) z)
 
 returns-2 : tie.Need-returns-2
 returns-2 c =
