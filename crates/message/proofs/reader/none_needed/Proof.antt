@@ -28,7 +28,7 @@ returns : tie.Need-returns Inv-loop μ-loop
 returns c =
     let loop = c .before .before .before .loop in
     let row = now (c .before .before .before .before .args .row) in
-    sym (one-below (notNeeded row) 8 (loop .kind) (c .before .before .loop-test .taken) (simp (eq-eqb _ _ (c .if1 .taken))))
+    sym (one-below (notNeeded row) 8 (loop .kind) (c .before .before .loop-test .taken) (simp (eq-eqb _ 1 (c .if1 .taken))))
 
 add-kind : tie.Need-add-kind Inv-loop μ-loop
 add-kind c = omega arith
@@ -39,7 +39,7 @@ loop-less c = omega arith
 loop-again : tie.Need-loop-again Inv-loop μ-loop
 loop-again c =
     let l = c .before .before .before .loop in
-    (omega arith, below-next _ (l .kind) (l .inv .1) (simp (ne-eqb _ _ (c .if1 .left))))
+    (omega arith, below-next _ (l .kind) (l .inv .1) (simp (ne-eqb _ 1 (c .if1 .left))))
 
 returns-2 : tie.Need-returns-2 Inv-loop μ-loop
 returns-2 c =
