@@ -64,24 +64,24 @@ marked-needed false r = go (eqb r needed)
     go true = refl
     go false = refl
 
--- `row` tells which types the record m of a message of command c has: these belong to the command
-pub record Told (c : ℕ) (m : Message) (row : List ℕ) : Type 0 where
+-- `row` has the entries of a message of command c whose record so far is m: `seen` for the types that m has, which belong to the command
+pub record Entries (c : ℕ) (m : Message) (row : List ℕ) : Type 0 where
   pub command : m .command ≡ c
   pub eight : length row ≡ 8
-  pub told : (t : ℕ) → entryOf row t ≡ marked (fieldOf m t .present) (roleOf c t)
+  pub entry : (t : ℕ) → entryOf row t ≡ marked (fieldOf m t .present) (roleOf c t)
   pub own : (t : ℕ) → fieldOf m t .present ≡ true → eqb (roleOf c t) foreign ≡ false
 
-module _ {c : ℕ} {m : Message} {row : List ℕ} (g : Told c m row) where
+module _ {c : ℕ} {m : Message} {row : List ℕ} (g : Entries c m row) where
   entry-foreign : (t : ℕ) → eqb (entryOf row t) foreign ≡ eqb (roleOf (m .command) t) foreign
-  entry-foreign t = rw (g .command, g .told t) (marked-foreign (fieldOf m t .present) (roleOf c t) (g .own t))
+  entry-foreign t = rw (g .command, g .entry t) (marked-foreign (fieldOf m t .present) (roleOf c t) (g .own t))
 
   entry-seen : (t : ℕ) → eqb (entryOf row t) seen ≡ fieldOf m t .present
-  entry-seen t = rw (g .told t) (marked-seen (fieldOf m t .present) (roleOf c t) (role-not-seen c t))
+  entry-seen t = rw (g .entry t) (marked-seen (fieldOf m t .present) (roleOf c t) (role-not-seen c t))
 
   entry-needed : (t : ℕ) → notNeeded row t ≡ hasNeeded m t
   unfolding hasNeeded
   entry-needed t =
-      rw (g .told t)
+      rw (g .entry t)
       (marked-needed (fieldOf m t .present) (roleOf c t)
       ∙ ap (λ (i : ℕ). cond (eqb (roleOf i t) needed) (fieldOf m t .present) true) (sym (g .command)))
 
@@ -107,7 +107,7 @@ clash e = impossible (cc)
 same : {a b t n : ℕ} → tlv.Right a b ≡ tlv.Right t n → (a ≡ t) × (b ≡ n)
 same e = (cc, cc)
 
-pub right-fits : (s : List ℕ) (at c : ℕ) (m : Message) (row : List ℕ) → Told c m row → (t n : ℕ) → tlvIn s at row ≡ tlv.Right t n → Fits s at c t n
+pub right-fits : (s : List ℕ) (at c : ℕ) (m : Message) (row : List ℕ) → Entries c m row → (t n : ℕ) → tlvIn s at row ≡ tlv.Right t n → Fits s at c t n
 unfolding tlvIn
 right-fits s at c m row g t n =
     let P : Tlv → Type 0 = λ x. x ≡ tlv.Right t n → Fits s at c t n in
@@ -128,11 +128,11 @@ right-fits s at c m row g t n =
 abbrev Whole : List ℕ → ℕ → Verdict
 Whole s c = verdictOf (tlvsFrom (length s) s 4 (emptyOf c))
 
--- Up to `at` the types that `row` tells were seen: there is a record that has these, and from which the rest gives the whole verdict.
+-- Up to `at` the types that `row` has as seen were there: there is a record that has these, and from which the rest gives the whole verdict.
 pub record Checked (s : List ℕ) (c at : ℕ) (row : List ℕ) : Type 0 where
   pub m : Message
   pub k : ℕ
-  pub tells : Told c m row
+  pub entries : Entries c m row
   pub enough : length s ≤ at + k
   pub rest : verdictOf (tlvsFrom k s at m) ≡ Whole s c
 
@@ -143,11 +143,11 @@ checked-start s c row e =
     record {
       m = emptyOf c;
       k = length s;
-      tells =
+      entries =
           record {
             command = command-empty c;
             eight = rw e (eight-columns c);
-            told = λ t. rw (none t, e);
+            entry = λ t. rw (none t, e);
             own = λ t p. absurd (false≢true (sym (none t) ∙ p));
           };
       enough = omega arith;
@@ -156,29 +156,29 @@ checked-start s c row e =
 
 module _ {s : List ℕ} {c at : ℕ} {row : List ℕ} (g : Checked s c at row) where
   at-step : (x : Tlv) → tlvIn s at row ≡ x → tlvAt s at (g .m) ≡ stepOf at (g .m) x
-  at-step x e = tlv-step (g .tells) s at ∙ ap (stepOf at (g .m)) e
+  at-step x e = tlv-step (g .entries) s at ∙ ap (stepOf at (g .m)) e
 
   pub checked-refused : (st : Status) → at < length s → tlvIn s at row ≡ tlv.Refused st → record { status = st; place = at } ≡ Whole s c
   checked-refused st h e = ap verdictOf (tlvs-refused (g .k) s at (g .m) st at h (g .enough) (at-step (tlv.Refused st) e)) ∙ g .rest
 
   module _ (t n : ℕ) (h : at < length s) (e : tlvIn s at row ≡ tlv.Right t n) where
     pub checked-fits : Fits s at c t n
-    checked-fits = right-fits s at c (g .m) row (g .tells) t n e
+    checked-fits = right-fits s at c (g .m) row (g .entries) t n e
 
     value : Field
     value = record { present = true; at = at + 3; len = n }
 
-    told-next : (u : ℕ) → entryOf (set row t seen) u ≡ marked (fieldOf (withField (g .m) t value) u .present) (roleOf c u)
+    entries-next : (u : ℕ) → entryOf (set row t seen) u ≡ marked (fieldOf (withField (g .m) t value) u .present) (roleOf c u)
     unfolding value
-    told-next u =
-        let l = g .tells .eight in
+    entries-next u =
+        let l = g .entries .eight in
         let small = checked-fits .small in
         ⊎-elim
         (λ w.
         subst (λ (i : ℕ). entryOf (set row t seen) i ≡ seen) (w .0) (getD-set-same row t seen foreign (omega arith))
         ∙ sym (ap (λ (f : Field). marked (f .present) (roleOf c u)) (w .1)))
         (λ w.
-        getD-set-other row t u seen foreign (λ q. w .0 (sym q)) ∙ g .tells .told u
+        getD-set-other row t u seen foreign (λ q. w .0 (sym q)) ∙ g .entries .entry u
         ∙ sym (ap (λ (f : Field). marked (f .present) (roleOf c u)) (w .1)))
         (field-with (g .m) t value (checked-fits .small) (checked-fits .not-1) u)
 
@@ -187,7 +187,7 @@ module _ {s : List ℕ} {c at : ℕ} {row : List ℕ} (g : Checked s c at row) w
     own-next u =
         ⊎-elim
         (λ w p. subst (λ (i : ℕ). eqb (roleOf c i) foreign ≡ false) (w .0) (checked-fits .own))
-        (λ w p. g .tells .own u (sym (ap (λ (f : Field). f .present) (w .1)) ∙ p))
+        (λ w p. g .entries .own u (sym (ap (λ (f : Field). f .present) (w .1)) ∙ p))
         (field-with (g .m) t value (checked-fits .small) (checked-fits .not-1) u)
 
     pub checked-next : Checked s c (at + 3 + n) (set row t seen)
@@ -197,11 +197,11 @@ module _ {s : List ℕ} {c at : ℕ} {row : List ℕ} (g : Checked s c at row) w
         record {
           m = withField (g .m) t value;
           k = known .0;
-          tells =
+          entries =
               record {
-                command = command-with (g .m) t value ∙ g .tells .command;
-                eight = simp length-set (g .tells .eight);
-                told = told-next;
+                command = command-with (g .m) t value ∙ g .entries .command;
+                eight = simp length-set (g .entries .eight);
+                entry = entries-next;
                 own = own-next;
               };
           enough = known .3;
@@ -213,7 +213,7 @@ module _ {s : List ℕ} {c at : ℕ} {row : List ℕ} (g : Checked s c at row) w
   all-same : (n : ℕ) → allBelow n (notNeeded row) ≡ allBelow n (hasNeeded (g .m))
   unfolding allBelow
   all-same zero = refl
-  all-same (suc n) = rw (all-same n, entry-needed (g .tells) n)
+  all-same (suc n) = rw (all-same n, entry-needed (g .entries) n)
 
   pub checked-complete : length s ≤ at → allBelow 8 (notNeeded row) ≡ true → record { status = status.Accepted; place = 0 } ≡ Whole s c
   unfolding lastOf isComplete

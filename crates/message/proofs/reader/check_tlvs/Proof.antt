@@ -43,7 +43,7 @@ cast-row : tie.Need-cast-row Inv-loop μ-loop
 cast-row c = omega (arith, fits c .small)
 
 array-write-row : tie.Need-array-write-row Inv-loop μ-loop
-array-write-row c = omega (arith, fits c .small, c .before .before .before .before .before .before .loop .inv .tells .eight)
+array-write-row c = omega (arith, fits c .small, c .before .before .before .before .before .before .loop .inv .entries .eight)
 
 add-at : tie.Need-add-at Inv-loop μ-loop
 add-at c = omega (arith, fits c .whole)
