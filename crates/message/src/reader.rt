@@ -23,13 +23,13 @@ pub enum Answer {
 }
 
 // What the header gives: the command, or the refusal, whose place is 0.
-enum Header {
+pub enum Header {
     Command(u8),
     Refused { status: Status },
 }
 
 // What one TLV gives: its type and the length of its value, or the refusal, whose place is that of the TLV.
-enum Tlv {
+pub enum Tlv {
     Right { kind: u8, len: usize },
     Refused { status: Status },
 }
@@ -41,7 +41,7 @@ pub struct Verdict {
 }
 
 // The command of a message, or what its size, version or command is refused with.
-fn read_header(bytes: &[u8]) -> Header
+pub fn read_header(bytes: &[u8]) -> Header
     ensures { λ r. ⌜ r ≡ headerOf (now (bytes .entry)) ⌝ }
 {
     if bytes.len() < 4 {
@@ -116,8 +116,20 @@ fn check_tlv(bytes: &[u8], at: usize, row: &[u8]) -> Tlv
     Tlv::Right { kind, len }
 }
 
+// The TLV at any place; past the end there are too few bytes for one.
+pub fn tlv_at(bytes: &[u8], at: usize, row: &[u8]) -> Tlv
+    ensures { λ r. ⌜ r ≡ tlvIn (now (bytes .entry)) at (now (row .entry)) ⌝ }
+{
+    if bytes.len() < at {
+        return Tlv::Refused {
+            status: Status::TlvTruncated,
+        };
+    }
+    check_tlv(bytes, at, row)
+}
+
 // Whether no type is still needed.
-fn none_needed(row: &[u8; 8]) -> bool
+pub fn none_needed(row: &[u8; 8]) -> bool
     ensures { λ r. ⌜ r ≡ allBelow 8 (notNeeded (now (row .entry))) ⌝ }
 {
     let mut kind: usize = 0;
@@ -162,7 +174,7 @@ fn check_tlvs(bytes: &[u8], command: u8) -> Verdict
 }
 
 // Whether a message is accepted, and if not, its refusal.
-pub fn check(bytes: &[u8]) -> Verdict
+fn check(bytes: &[u8]) -> Verdict
     ensures { λ r. ⌜ r ≡ verdictOf (readMessage (now (bytes .entry))) ⌝ }
 {
     match read_header(bytes) {
@@ -173,7 +185,7 @@ pub fn check(bytes: &[u8]) -> Verdict
 
 // The record that the headers of the TLVs give, with no check: that of an accepted message. Each value goes to its field in place: as a whole
 // the record is not moved. Bytes that are too few or too many for a message give an empty one.
-pub fn fields(bytes: &[u8]) -> Message
+fn fields(bytes: &[u8]) -> Message
     ensures { λ r. ⌜ r ≡ fieldsOf (now (bytes .entry)) ⌝ }
 {
     if bytes.len() <= 3 {

@@ -33,7 +33,7 @@ pub fn known_command(command: u8) -> bool
 
 // The roles of the TLV types in a command. Columns: 0 Friendly Name, 1 no such type, 2 RTSP Port, 3 Source ID, 4 Security Token,
 // 5 Security Options, 6 PIN Challenge, 7 PIN Response Reason.
-pub(crate) fn roles_of(command: u8) -> [u8; 8]
+pub fn roles_of(command: u8) -> [u8; 8]
     ensures { λ r. ⌜ r ≡ rolesOf command ⌝ }
 {
     match command {

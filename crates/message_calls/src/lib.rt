@@ -1,4 +1,6 @@
 // The calls of connection messages over lent records. Crate ashlarsilk exports each, and says there in words what a host gets.
+mod locating;
+
 ghost use mathlib.Core.Path.{_≡_};
 ghost use Rattle.message_calls.specs.MessageCalls.{readAnswer, readRecord, messageWritten, messageOutput, portAnswer, optionsAnswer};
 ghost use Rattle.message_calls.specs.MessageCalls.{sourceAnswer, sourceLent};
@@ -9,14 +11,14 @@ use answers::Yes;
 use answers::accept;
 use answers::refuse;
 use message::accessors;
-use message::reader;
 use records::message_record;
 use scan::bytes;
+use wire::number::u8_at;
 use wire::status;
 use wire::status::Status;
 
-// Reads a message, which is all of the lent bytes, into the record. The reader's two steps are taken one after the other, so that its record
-// goes straight into the lent bytes.
+// Reads a message, which is all of the lent bytes, into the record. The values are located first, so that a refused message writes nothing, and
+// go from there straight into the lent bytes.
 pub fn read(bytes: &[u8], record: &mut [u8]) -> Answer
     ensures answer { λ r. ⌜ r ≡ readAnswer (now (bytes .entry)) (now («record» .entry)) ⌝ }
     ensures after { λ _. ⌜ now («record» .exit) ≡ readRecord (now (bytes .entry)) (now («record» .entry)) ⌝ }
@@ -24,12 +26,17 @@ pub fn read(bytes: &[u8], record: &mut [u8]) -> Answer
     if record.len() < message_record::LENGTH {
         return refuse(Status::NoRoom, 0);
     }
-    let verdict = reader::check(bytes);
+    let mut places = [0u32; 8];
+    let mut lengths = [0u32; 8];
+    let verdict = locating::locate(bytes, &mut places, &mut lengths);
     let status = verdict.status;
     if status::number(status) != 0 {
         return refuse(status, verdict.place);
     }
-    message_record::write(record, reader::fields(bytes));
+    message_record::write(
+        record,
+        locating::message_from(u8_at(bytes, 3), &places, &lengths),
+    );
     accept()
 }
 

@@ -6,6 +6,7 @@ use std::ops::Range;
 use ashlarsilk::cursor::{self as ours, LARGEST_PICTURE};
 use reference::cursor as theirs;
 
+use crate::page::Paged;
 use crate::table::{row, row_with_copy, Goal};
 
 /// The most data of a continuation: its PacketMsgSize is 65,535.
@@ -86,14 +87,14 @@ fn fragments(total: usize, size: usize, tint: u8) -> Vec<Fragment> {
 struct Ours {
     pointer: ours::Pointer,
     picture: ours::Picture,
-    image: Vec<u8>,
-    marks: Vec<u8>,
+    image: Paged,
+    marks: Paged,
 }
 
 impl Ours {
     fn new(total: usize) -> Self {
         let (pointer, picture) = (ours::Pointer::fresh(), ours::Picture::fresh());
-        Ours { pointer, picture, image: vec![0; total], marks: vec![0; total] }
+        Ours { pointer, picture, image: Paged::zeros(total), marks: Paged::zeros(total) }
     }
 
     fn store(&mut self, fragments: &[Fragment]) {
@@ -109,14 +110,14 @@ impl Ours {
 struct Theirs {
     pointer: theirs::Pointer,
     picture: theirs::Picture,
-    image: Vec<u8>,
-    marks: Vec<u8>,
+    image: Paged,
+    marks: Paged,
 }
 
 impl Theirs {
     fn new(total: usize) -> Self {
         let (pointer, picture) = (theirs::Pointer::fresh(), theirs::Picture::fresh());
-        Theirs { pointer, picture, image: vec![0; total], marks: vec![0; total] }
+        Theirs { pointer, picture, image: Paged::zeros(total), marks: Paged::zeros(total) }
     }
 
     fn store(&mut self, fragments: &[Fragment]) {
@@ -155,7 +156,8 @@ fn stored(total: usize, size: usize) {
     let conflicting: Vec<Fragment> = second.iter().map(Fragment::conflicting).collect();
     let bytes = first.iter().map(|fragment| fragment.data.len()).max().unwrap_or(0);
     let goal = if bytes >= 16_384 { Goal::Copies(4.0) } else { Goal::Rust };
-    let (mut library, mut rust, mut image) = (Ours::new(total), Theirs::new(total), vec![0; total]);
+    let (mut library, mut rust, mut image) =
+        (Ours::new(total), Theirs::new(total), Paged::zeros(total));
     let of = format!("of a picture of {total}");
 
     // Two pictures in turn, so that each finds other bytes. Without an opened picture the first
@@ -182,8 +184,8 @@ fn stored(total: usize, size: usize) {
             copy(&second, &mut image);
         },
     );
-    assert_eq!((&library.image, &library.marks), (&rust.image, &rust.marks));
-    assert_eq!(library.image, image);
+    assert_eq!((&*library.image, &*library.marks), (&*rust.image, &*rust.marks));
+    assert_eq!(*library.image, *image);
     for (work, fragments) in [("a repeated", &second), ("a conflicting", &conflicting)] {
         row_with_copy(
             &format!("store {work} fragment {of}"),
@@ -194,7 +196,7 @@ fn stored(total: usize, size: usize) {
             &mut || rust.store(fragments),
             &mut || copy(fragments, &mut image),
         );
-        assert_eq!((&library.image, &library.marks), (&rust.image, &rust.marks));
+        assert_eq!((&*library.image, &*library.marks), (&*rust.image, &*rust.marks));
     }
 }
 
@@ -240,7 +242,7 @@ pub fn completeness() {
         let (mut library, mut rust) = (Ours::new(total), Theirs::new(total));
         library.store(&fragments);
         rust.store(&fragments);
-        let mut marks = vec![0; total];
+        let mut marks = Paged::zeros(total);
         for (work, last) in [("completeness, yes", 1), ("completeness, the last place empty", 0)] {
             library.marks[total - 1] = last;
             rust.marks[total - 1] = last;

@@ -7,6 +7,7 @@
 
 mod cursor;
 mod messages;
+mod page;
 mod table;
 mod timing;
 

@@ -5,6 +5,7 @@ use std::hint::black_box;
 use ashlarsilk::{Command, Limits, Message, Session};
 use reference::{limits, message, session};
 
+use crate::page::Paged;
 use crate::table::row;
 
 /// A message: its header and these TLVs, each a type and a value.
@@ -84,7 +85,7 @@ fn read(work: &str, bytes: &[u8]) {
 fn write(work: &str, bytes: &[u8]) {
     let ours = Message::read(bytes).expect("the message is accepted");
     let theirs = message::read(bytes).expect("the message is accepted");
-    let (mut out, mut other) = (vec![0; bytes.len()], vec![0; bytes.len()]);
+    let (mut out, mut other) = (Paged::zeros(bytes.len()), Paged::zeros(bytes.len()));
     row(
         work,
         bytes.len(),
@@ -137,10 +138,10 @@ pub fn limits() {
         "write a cursor limits value",
         text.len(),
         &mut || {
-            let _ = black_box(black_box(ours).write(&mut out));
+            let _ = black_box(black_box(&ours).write(&mut out));
         },
         &mut || {
-            let _ = black_box(limits::write(black_box(theirs), &mut other));
+            let _ = black_box(limits::write(*black_box(&theirs), &mut other));
         },
     );
 }

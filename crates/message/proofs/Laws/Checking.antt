@@ -1,4 +1,4 @@
--- What the check has found so far gives the rest of its verdict. Assumes nothing.
+-- What the check has found so far gives the rest of the answer. Assumes nothing.
 use Prim.Native.Nat.{ℕ, zero, suc, _+_, _≤_, _<_}
 use mathlib.Core.Path.{_≡_, refl, sym, ap, _∙_, subst}
 use mathlib.Core.List.{List}
@@ -16,11 +16,12 @@ use Rattle.message.specs.declared.record.Field.{Field}
 use Rattle.message.specs.declared.record.Message.{Message}
 use Rattle.message.specs.declared.reader.Tlv.{Tlv}
 use Rattle.message.specs.declared.reader.Tlv.the-variants as tlv
-use Rattle.message.specs.declared.reader.Verdict.{Verdict}
+use Rattle.message.specs.declared.reader.Answer.{Answer}
+use Rattle.message.specs.declared.reader.Answer.the-variants as answer
 use Rattle.message.specs.Rules.{entryOf, rolesOf, roleOf, foreign, needed, lengthOk}
 use Rattle.message.specs.Record.{fieldOf, withField, emptyOf}
 use Rattle.message.specs.Reading.{typeAt, lengthAt, nextAt, Step, tlvAt, hasNeeded, isComplete, lastOf, tlvsFrom}
-use Rattle.message.specs.Checking.{seen, tlvIn, stepOf, notNeeded, verdictOf}
+use Rattle.message.specs.Checking.{seen, tlvIn, stepOf, notNeeded}
 use Rattle.wire.proofs.Laws.Bool.{impossible, by-test}
 use Rattle.message.proofs.Laws.Rules.{eight-columns, type-small, type-not-1, role-not-seen}
 use Rattle.message.proofs.Laws.Record.{field-with, field-empty, command-with, command-empty}
@@ -125,18 +126,19 @@ right-fits s at c m row g t n =
 
 -- ---- the TLVs so far
 
-abbrev Whole : List ℕ → ℕ → Verdict
-Whole s c = verdictOf (tlvsFrom (length s) s 4 (emptyOf c))
+-- what the TLVs of s are answered with, as those of command c
+abbrev pub Whole : List ℕ → ℕ → Answer
+Whole s c = tlvsFrom (length s) s 4 (emptyOf c)
 
--- Up to `at` the types that `row` has as seen were there: there is a record that has these, and from which the rest gives the whole verdict.
+-- Up to `at` the types that `row` has as seen were there: m is the record of these, and from it the rest gives the whole answer.
 pub record Checked (s : List ℕ) (c at : ℕ) (row : List ℕ) : Type 0 where
   pub m : Message
   pub k : ℕ
   pub entries : Entries c m row
   pub enough : length s ≤ at + k
-  pub rest : verdictOf (tlvsFrom k s at m) ≡ Whole s c
+  pub rest : tlvsFrom k s at m ≡ Whole s c
 
-pub checked-start : (s : List ℕ) (c : ℕ) (row : List ℕ) → row ≡ rolesOf c → Checked s c 4 row
+unfoldable pub checked-start : (s : List ℕ) (c : ℕ) (row : List ℕ) → row ≡ rolesOf c → Checked s c 4 row
 unfolding roleOf
 checked-start s c row e =
     let none : (t : ℕ) → fieldOf (emptyOf c) t .present ≡ false = λ t. ap (λ (f : Field). f .present) (field-empty c t) in
@@ -154,21 +156,25 @@ checked-start s c row e =
       rest = refl;
     }
 
+pub start-record : (s : List ℕ) (c : ℕ) (row : List ℕ) (e : row ≡ rolesOf c) → checked-start s c row e .m ≡ emptyOf c
+unfolding checked-start
+start-record s c row e = refl
+
 module _ {s : List ℕ} {c at : ℕ} {row : List ℕ} (g : Checked s c at row) where
-  at-step : (x : Tlv) → tlvIn s at row ≡ x → tlvAt s at (g .m) ≡ stepOf at (g .m) x
+  pub at-step : (x : Tlv) → tlvIn s at row ≡ x → tlvAt s at (g .m) ≡ stepOf at (g .m) x
   at-step x e = tlv-step (g .entries) s at ∙ ap (stepOf at (g .m)) e
 
-  pub checked-refused : (st : Status) → at < length s → tlvIn s at row ≡ tlv.Refused st → record { status = st; place = at } ≡ Whole s c
-  checked-refused st h e = ap verdictOf (tlvs-refused (g .k) s at (g .m) st at h (g .enough) (at-step (tlv.Refused st) e)) ∙ g .rest
+  pub checked-refused : (st : Status) → at < length s → tlvIn s at row ≡ tlv.Refused st → answer.Refused st at ≡ Whole s c
+  checked-refused st h e = tlvs-refused (g .k) s at (g .m) st at h (g .enough) (at-step (tlv.Refused st) e) ∙ g .rest
 
   module _ (t n : ℕ) (h : at < length s) (e : tlvIn s at row ≡ tlv.Right t n) where
     pub checked-fits : Fits s at c t n
     checked-fits = right-fits s at c (g .m) row (g .entries) t n e
 
-    value : Field
+    unfoldable pub value : Field
     value = record { present = true; at = at + 3; len = n }
 
-    entries-next : (u : ℕ) → entryOf (set row t seen) u ≡ marked (fieldOf (withField (g .m) t value) u .present) (roleOf c u)
+    pub entries-next : (u : ℕ) → entryOf (set row t seen) u ≡ marked (fieldOf (withField (g .m) t value) u .present) (roleOf c u)
     unfolding value
     entries-next u =
         let l = g .entries .eight in
@@ -182,7 +188,7 @@ module _ {s : List ℕ} {c at : ℕ} {row : List ℕ} (g : Checked s c at row) w
         ∙ sym (ap (λ (f : Field). marked (f .present) (roleOf c u)) (w .1)))
         (field-with (g .m) t value (checked-fits .small) (checked-fits .not-1) u)
 
-    own-next : (u : ℕ) → fieldOf (withField (g .m) t value) u .present ≡ true → eqb (roleOf c u) foreign ≡ false
+    pub own-next : (u : ℕ) → fieldOf (withField (g .m) t value) u .present ≡ true → eqb (roleOf c u) foreign ≡ false
     unfolding value
     own-next u =
         ⊎-elim
@@ -190,7 +196,7 @@ module _ {s : List ℕ} {c at : ℕ} {row : List ℕ} (g : Checked s c at row) w
         (λ w p. g .entries .own u (sym (ap (λ (f : Field). f .present) (w .1)) ∙ p))
         (field-with (g .m) t value (checked-fits .small) (checked-fits .not-1) u)
 
-    pub checked-next : Checked s c (at + 3 + n) (set row t seen)
+    unfoldable pub checked-next : Checked s c (at + 3 + n) (set row t seen)
     unfolding value
     checked-next =
         let known = tlvs-known (g .k) s at (g .m) (at + 3 + n) (withField (g .m) t value) h (g .enough) (at-step (tlv.Right t n) e) in
@@ -205,8 +211,12 @@ module _ {s : List ℕ} {c at : ℕ} {row : List ℕ} (g : Checked s c at row) w
                 own = own-next;
               };
           enough = known .3;
-          rest = ap verdictOf (known .4) ∙ g .rest;
+          rest = known .4 ∙ g .rest;
         }
+
+    pub next-record : checked-next .m ≡ withField (g .m) t (record { present = true; at = at + 3; len = n })
+    unfolding checked-next value
+    next-record = refl
 
   -- ---- the end
 
@@ -215,17 +225,16 @@ module _ {s : List ℕ} {c at : ℕ} {row : List ℕ} (g : Checked s c at row) w
   all-same zero = refl
   all-same (suc n) = rw (all-same n, entry-needed (g .entries) n)
 
-  pub checked-complete : length s ≤ at → allBelow 8 (notNeeded row) ≡ true → record { status = status.Accepted; place = 0 } ≡ Whole s c
+  pub checked-complete : length s ≤ at → allBelow 8 (notNeeded row) ≡ true → answer.Accepted (g .m) ≡ Whole s c
   unfolding lastOf isComplete
   checked-complete h e =
       let f : allBelow 8 (hasNeeded (g .m)) ≡ true = sym (all-same 8) ∙ e in
-      let l : record { status = status.Accepted; place = 0 } ≡ verdictOf (lastOf (length s) (g .m)) = simp f in
-      l ∙ ap verdictOf (tlvs-end (g .k) s at (g .m) h) ∙ g .rest
+      let l : answer.Accepted (g .m) ≡ lastOf (length s) (g .m) = simp f in
+      l ∙ tlvs-end (g .k) s at (g .m) h ∙ g .rest
 
-  pub checked-missing
-      : length s ≤ at → allBelow 8 (notNeeded row) ≡ false → record { status = status.TlvUnexpected; place = length s } ≡ Whole s c
+  pub checked-missing : length s ≤ at → allBelow 8 (notNeeded row) ≡ false → answer.Refused status.TlvUnexpected (length s) ≡ Whole s c
   unfolding lastOf isComplete
   checked-missing h e =
       let f : allBelow 8 (hasNeeded (g .m)) ≡ false = sym (all-same 8) ∙ e in
-      let l : record { status = status.TlvUnexpected; place = length s } ≡ verdictOf (lastOf (length s) (g .m)) = simp f in
-      l ∙ ap verdictOf (tlvs-end (g .k) s at (g .m) h) ∙ g .rest
+      let l : answer.Refused status.TlvUnexpected (length s) ≡ lastOf (length s) (g .m) = simp f in
+      l ∙ tlvs-end (g .k) s at (g .m) h ∙ g .rest

@@ -1,6 +1,6 @@
 -- Each test of the definition gives the condition of its answer, and the conditions give the tests. Assumes nothing.
 use Prim.Native.Nat.{ℕ, zero, suc, _+_, _≤_, _<_}
-use mathlib.Core.Path.{_≡_, refl, sym, _∙_, subst}
+use mathlib.Core.Path.{_≡_, refl, sym, ap, _∙_, subst}
 use mathlib.Core.List.{List}
 use mathlib.Core.Bool.{true, false, not}
 use mathlib.Core.Logic.{inl, inr}
@@ -219,6 +219,14 @@ of-header s =
     let one = eqb-true (versionIn s) 1 (not-false (eqb (versionIn s) 1) v) in
     by-test P (not (knownCommand (commandIn s))) _ _ (λ e. given.command four all one (not-true (knownCommand (commandIn s)) e))
     (λ k. (record { four = four; size = all; version = one; command = not-false (knownCommand (commandIn s)) k }, refl)))))))
+
+-- a header that gives a command is right, and the command is the one that stands there
+pub header-command : (s : List ℕ) (c : ℕ) → headerOf s ≡ header.Command c → Headed s × (c ≡ commandIn s)
+header-command s c e = subst (OfHeader s) e (of-header s)
+
+pub header-refused : (s : List ℕ) (st : Status) → headerOf s ≡ header.Refused st → answer.Refused st 0 ≡ readMessage s
+unfolding readMessage
+header-refused s st e = sym (ap (afterHeader s) e)
 
 -- Size is a number of two bytes
 pub headed-short : (s : List ℕ) → ((k : ℕ) → getD s k 0 < 256) → Headed s → length s ≤ 65535

@@ -11,7 +11,8 @@ use Rattle.message.specs.declared.reader.Answer.{Answer}
 use Rattle.message.specs.declared.reader.Answer.the-variants as reader
 use Rattle.message_writer.specs.declared.Written.{Written}
 use Rattle.message.specs.declared.accessors.SourceId.{SourceId}
-use Rattle.message.specs.Reading.{readMessage}
+use Rattle.message.specs.Reading.{commandIn, readMessage}
+use Rattle.wire.specs.Number.{number}
 use Rattle.message_writer.specs.Writing.{writeAnswer, output}
 use Rattle.message.specs.Accessors.{sourceOf}
 use Rattle.records.specs.MessageRecord.{messageBytes, messageIn}
@@ -21,6 +22,11 @@ use Rattle.answers.specs.declared.Yes.{Yes}
 use Rattle.answers.specs.Answers.{short}
 use Rattle.message_calls.specs.MessageCalls.{answerOf, readAnswer, recordOf, readRecord, notWritten, writtenOf, messageWritten, messageOutput}
 use Rattle.message_calls.specs.MessageCalls.{noAnswer, sourceAnswer, sourceCopied, sourceLent}
+
+-- the command is a number of one byte
+pub command-byte : (s : List ℕ) → number 1 s 3 ≡ commandIn s
+unfolding number
+command-byte s = omega arith
 
 module _ (s xs : List ℕ) where
   short-kept : length xs < 64 → (a : Answer) → recordOf a xs ≡ xs

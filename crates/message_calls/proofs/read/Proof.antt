@@ -7,9 +7,8 @@ use Rattle.wire.specs.Status.{numberOf}
 use Rattle.message.specs.declared.reader.Answer.the-variants as answer
 use Rattle.message.specs.declared.reader.Verdict.{Verdict}
 use Rattle.message.specs.Reading.{readMessage}
-use Rattle.message.proofs.Laws.Fields.{zero-fields}
-use Rattle.message.proofs.Laws.Reading.{other-refused}
-use Rattle.message_calls.proofs.Laws.MessageCalls.{read-short, read-answered}
+use Rattle.message.proofs.Laws.Reading.{zero-accepted, other-refused}
+use Rattle.message_calls.proofs.Laws.MessageCalls.{command-byte, read-short, read-answered}
 use borrow.Author.Needs.{needs}
 use Rattle.message_calls.proofs.read.Statement.{statement}
 use Rattle.message_calls.proofs.read.Tie as tie
@@ -23,8 +22,8 @@ returns c =
     let a = i .before .before .before .args in
     rw (c .refuse .ensures) (read-short (now (a .bytes)) (now (a .«record»)) (i .if1 .taken))
 
-check-requires : tie.Need-check-requires
-check-requires c κs = search needs
+locate-requires : tie.Need-locate-requires
+locate-requires c κs = search needs
 
 number-requires : tie.Need-number-requires
 number-requires c κs = search needs
@@ -36,14 +35,18 @@ returns-2 : tie.Need-returns-2
 returns-2 c =
     let n = c .before .before in
     let k = n .before in
-    let a = k .before .before .before .before .args in
-    let e = k .check .ensures in
+    let i = k .before .before .before in
+    let a = i .before .before .before .args in
+    let e = k .locate .ensures .0 in
     let r = ap (λ (v : Verdict). answer.Refused (v .status) (v .place)) e
     ∙ other-refused (readMessage (now (a .bytes))) (λ z. c .before .if2 .taken (n .number .ensures ∙ ap (λ (v : Verdict). numberOf (v .status)) e ∙ z)) in
-    rw (c .refuse2 .ensures) (read-answered (now (a .bytes)) (now (a .«record»)) _ (k .before .if1 .left) (sym r))
+    rw (c .refuse2 .ensures) (read-answered (now (a .bytes)) (now (a .«record»)) _ (i .if1 .left) (sym r))
 
-fields-requires : tie.Need-fields-requires
-fields-requires c κs = search needs
+u8-at-requires : tie.Need-u8-at-requires
+u8-at-requires c κs = search needs
+
+message-from-requires : tie.Need-message-from-requires
+message-from-requires c κs = search needs
 
 write-requires : tie.Need-write-requires
 write-requires c κs = search needs
@@ -58,14 +61,17 @@ returns-3 : tie.Need-returns-3
 returns-3 c =
     let w = c .before .before .before in
     let f = w .before in
-    let n = f .before .before .before in
+    let u = f .before .before .before in
+    let j = u .before .before in
+    let n = j .before in
     let k = n .before in
-    let known = k .before .before .before in
-    let a = known .before .args in
-    let z = ap (λ (v : Verdict). numberOf (v .status)) (sym (k .check .ensures)) ∙ sym (n .number .ensures) ∙ f .before .before .if2 .left in
-    rw (c .accept .ensures, w .write .ensures, f .fields .ensures)
-    (read-answered (now (a .bytes)) (now (a .«record»)) _ (k .before .if1 .left)
-    (zero-fields (now (a .bytes)) (λ (i : ℕ). omega (arith, known .shared-slice-known .given i)) z))
+    let i = k .before .before .before in
+    let a = i .before .before .before .args in
+    let s = now (a .bytes) in
+    let z = ap (λ (v : Verdict). numberOf (v .status)) (sym (k .locate .ensures .0)) ∙ sym (n .number .ensures) ∙ j .if2 .left in
+    let m = zero-accepted s z in
+    rw (c .accept .ensures, w .write .ensures, f .message-from .ensures, u .u8-at .ensures, command-byte s)
+    (read-answered s (now (a .«record»)) _ (i .if1 .left) (m .1 ∙ ap answer.Accepted (k .locate .ensures .1 (m .0) (m .1))))
 
 pub read-spec : {M : Type 1} → statement M
 read-spec =
@@ -73,11 +79,12 @@ read-spec =
     (tie.spec
     refuse-requires
     returns
-    check-requires
+    locate-requires
     number-requires
     refuse-requires-2
     returns-2
-    fields-requires
+    u8-at-requires
+    message-from-requires
     write-requires
     accept-requires
     same-length

@@ -1,10 +1,11 @@
 -- What was found so far gives the rest of the verdict, and each turn finds one TLV more. Assumes nothing.
 use Prim.Native.Nat.{_-_}
-use mathlib.Core.Path.{sym, _∙_}
+use mathlib.Core.Path.{sym, ap, _∙_}
 use native.Mathlib.Omega.{arith}
 use borrow.Author.Needs.{needs}
 use denote.Ref.{now}
 use lib.ListN.{length}
+use Rattle.message.specs.Checking.{verdictOf}
 use Rattle.message.proofs.Laws.Checking.{Checked, Fits, checked-start, checked-fits, checked-refused, checked-next, checked-complete, checked-missing}
 use Rattle.message.proofs.reader.check_tlvs.Statement.{statement}
 use Rattle.message.proofs.reader.check_tlvs.Tie as tie
@@ -67,7 +68,7 @@ returns : tie.Need-returns Inv-loop μ-loop
 returns c =
     let k = c .before .before .before in
     let l = k .before .before .before in
-    checked-refused (l .loop .inv) _ (k .before .before .loop-test .taken) (sym (k .check-tlv .ensures) ∙ c .before .status .given .1)
+    ap verdictOf (checked-refused (l .loop .inv) _ (k .before .before .loop-test .taken) (sym (k .check-tlv .ensures) ∙ c .before .status .given .1))
 
 none-needed-requires : tie.Need-none-needed-requires Inv-loop μ-loop
 none-needed-requires c κs = search needs
@@ -75,12 +76,12 @@ none-needed-requires c κs = search needs
 returns-2 : tie.Need-returns-2 Inv-loop μ-loop
 returns-2 c =
     let t = c .before .before .before in
-    checked-complete (t .before .loop .inv) (t .loop-test .left) (sym (c .before .none-needed .ensures) ∙ c .if1 .taken)
+    ap verdictOf (checked-complete (t .before .loop .inv) (t .loop-test .left) (sym (c .before .none-needed .ensures) ∙ c .if1 .taken))
 
 returns-3 : tie.Need-returns-3 Inv-loop μ-loop
 returns-3 c =
     let t = c .before .before .before in
-    checked-missing (t .before .loop .inv) (t .loop-test .left) (sym (c .before .none-needed .ensures) ∙ c .if1 .left)
+    ap verdictOf (checked-missing (t .before .loop .inv) (t .loop-test .left) (sym (c .before .none-needed .ensures) ∙ c .if1 .left))
 
 pub check-tlvs-spec : {M : Type 1} → statement M
 check-tlvs-spec =

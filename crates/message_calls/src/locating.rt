@@ -1,0 +1,99 @@
+// Where the values of a message stand, found in one walk over its TLVs: for each type the place and the length of its value, 0 where there is
+// none. The check is the reader's, TLV by TLV. This walk is for the exported call alone: one that two calls share is put into neither by the
+// compiler, and its answer then goes through memory.
+ghost use mathlib.Core.Path.{_≡_};
+ghost use Prim.Native.Nat.{_≤_};
+ghost use lib.ListN.{length};
+ghost use Rattle.message.specs.Record.{emptyOf};
+ghost use Rattle.message.specs.Reading.{commandIn, tlvsFrom, readMessage};
+ghost use Rattle.message.specs.Checking.{verdictOf};
+ghost use Rattle.message_calls.specs.Locating.{none, Located, fieldFrom, messageFrom};
+use message::reader;
+use message::reader::Header;
+use message::reader::Tlv;
+use message::reader::Verdict;
+use message::record::Field;
+use message::record::Message;
+use message::rules;
+use wire::status::Status;
+
+// The TLVs after the header, from left to right, and last whether one is missing. The row of the command is changed on the way: SEEN for
+// each type that was there.
+fn locate_tlvs(bytes: &[u8], command: u8, places: &mut [u32; 8], lengths: &mut [u32; 8]) -> Verdict
+    requires { ⌜ (length (now bytes) ≤ 65535) × (now places ≡ none) × (now lengths ≡ none) ⌝ }
+    ensures verdict { λ r. ⌜ r ≡ verdictOf (tlvsFrom (length (now (bytes .entry))) (now (bytes .entry)) 4 (emptyOf command)) ⌝ }
+    ensures values { λ _. ⌜ Located (tlvsFrom (length (now (bytes .entry))) (now (bytes .entry)) 4 (emptyOf command)) command (now (places .exit)) (now (lengths .exit)) ⌝ }
+{
+    let mut at = 4;
+    let mut row = rules::roles_of(command);
+    while at < bytes.len() {
+        match reader::tlv_at(bytes, at, &row) {
+            Tlv::Right { kind, len } => {
+                row[kind as usize] = rules::SEEN;
+                places[kind as usize] = (at + 3) as u32;
+                lengths[kind as usize] = len as u32;
+                at = at + 3 + len;
+            }
+            Tlv::Refused { status } => {
+                return Verdict { status, place: at };
+            }
+        }
+    }
+    if reader::none_needed(&row) {
+        Verdict {
+            status: Status::Accepted,
+            place: 0,
+        }
+    } else {
+        Verdict {
+            status: Status::TlvUnexpected,
+            place: bytes.len(),
+        }
+    }
+}
+
+// The verdict on a message; for an accepted one the places and lengths are those of its record.
+pub(crate) fn locate(bytes: &[u8], places: &mut [u32; 8], lengths: &mut [u32; 8]) -> Verdict
+    requires { ⌜ (now places ≡ none) × (now lengths ≡ none) ⌝ }
+    ensures verdict { λ r. ⌜ r ≡ verdictOf (readMessage (now (bytes .entry))) ⌝ }
+    ensures values { λ _. ⌜ Located (readMessage (now (bytes .entry))) (commandIn (now (bytes .entry))) (now (places .exit)) (now (lengths .exit)) ⌝ }
+{
+    match reader::read_header(bytes) {
+        Header::Command(command) => locate_tlvs(bytes, command, places, lengths),
+        Header::Refused { status } => Verdict { status, place: 0 },
+    }
+}
+
+// The field of a value that begins at `at`; no value begins at 0.
+fn field_from(at: u32, len: u32) -> Field
+    ensures { λ r. ⌜ r ≡ fieldFrom at len ⌝ }
+{
+    Field {
+        present: at != 0,
+        at,
+        len,
+    }
+}
+
+// The record of a command with the values that stand there.
+pub(crate) fn message_from(command: u8, places: &[u32; 8], lengths: &[u32; 8]) -> Message
+    ensures { λ r. ⌜ r ≡ messageFrom command (now (places .entry)) (now (lengths .entry)) ⌝ }
+{
+    let friendly_name = field_from(places[0], lengths[0]);
+    let rtsp_port = field_from(places[2], lengths[2]);
+    let source_id = field_from(places[3], lengths[3]);
+    let security_token = field_from(places[4], lengths[4]);
+    let security_options = field_from(places[5], lengths[5]);
+    let pin_challenge = field_from(places[6], lengths[6]);
+    let pin_reason = field_from(places[7], lengths[7]);
+    Message {
+        command,
+        friendly_name,
+        rtsp_port,
+        source_id,
+        security_token,
+        security_options,
+        pin_challenge,
+        pin_reason,
+    }
+}
