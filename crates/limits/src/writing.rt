@@ -3,7 +3,6 @@
 ghost use mathlib.Core.Path.{_≡_};
 ghost use Prim.Native.Nat.{_≤_};
 ghost use lib.ListN.{length};
-ghost use Rattle.limits.specs.Hex.{digitTable};
 ghost use Rattle.limits.specs.Word.{copied};
 ghost use Rattle.limits.specs.Writing.{spellXor, spellField, spellLimits, spelling, writeAnswer};
 use crate::hex;
@@ -25,26 +24,30 @@ fn word_of(xor: Xor) -> [u8; 4]
 }
 
 // Fills the five bytes with a space and the digits of the number.
-fn write_field(out: &mut [u8], digits: &[u8; 16], number: u16)
-    requires { ⌜ (length (now out) ≡ 5) × (now digits ≡ digitTable) ⌝ }
+fn write_field(out: &mut [u8], number: u16)
+    requires { ⌜ length (now out) ≡ 5 ⌝ }
     ensures { λ _. ⌜ now (out .exit) ≡ spellField number ⌝ }
 {
     out[0] = b' ';
-    hex::write(&mut out[1..5], digits, number);
+    hex::write(&mut out[1..5], number);
 }
 
-// Writes limits into the first 19 bytes.
+// Writes limits into the first 19 bytes; the numbers in a loop, so that `write_field` has a single caller and is inlined there.
 fn write_limits(out: &mut [u8], limits: Limits)
     requires { ⌜ 19 ≤ length (now out) ⌝ }
     ensures { λ _. ⌜ now (out .exit) ≡ copied (spellLimits limits) (now (out .entry)) ⌝ }
 {
     let xor = limits.xor;
     let word = word_of(xor);
-    let digits = hex::DIGITS;
     word::copy(out, &word);
-    write_field(&mut out[4..9], &digits, limits.width);
-    write_field(&mut out[9..14], &digits, limits.height);
-    write_field(&mut out[14..19], &digits, limits.port);
+    let numbers = [limits.width, limits.height, limits.port];
+    let mut i = 0;
+    while i < 3 {
+        let at = 4 + 5 * i;
+        let end = at + 5;
+        write_field(&mut out[at..end], numbers[i]);
+        i += 1;
+    }
 }
 
 // Writes a value into the first bytes of `out` and answers their number; where `out` is too short, nothing changes.

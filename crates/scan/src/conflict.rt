@@ -77,12 +77,14 @@ fn any_by_blocks(marks: &[u8], old: &[u8], new: &[u8], n: usize) -> bool
     false
 }
 
-// Whether some place is filled and holds another byte than the new one, as far as all three go. Few places are compared at once.
+// Whether some place is filled and holds another byte than the new one, as far as all three go. Fragments of up to a kilobyte are compared
+// in one loop, which goes through the three slices in order, so that the processor fetches them ahead; by blocks, the marks of the last block,
+// which alone are read, are fetched late.
 pub fn found(marks: &[u8], old: &[u8], new: &[u8]) -> bool
     ensures { λ r. ⌜ r ≡ conflictIn (now (marks .entry)) (now (old .entry)) (now (new .entry)) ⌝ }
 {
     let n = least_length(marks.len(), least_length(old.len(), new.len()));
-    if n < 512 {
+    if n < 1280 {
         any_conflict(marks, old, new, 0, n)
     } else {
         any_by_blocks(marks, old, new, n)

@@ -1,15 +1,16 @@
 -- What is written part by part is the spelling, written at once. Assumes nothing.
-use Prim.Native.Nat.{ℕ, suc, _+_, _≤_, _<_}
+use Prim.Native.Nat.{ℕ, suc, _+_, _-_, _*_, _≤_, _<_}
 use mathlib.Core.Path.{_≡_, refl, sym, ap, _∙_}
-use mathlib.Core.List.{List, [], _∷_, _++_, append-assoc, append-nil}
+use mathlib.Core.List.{List, [], _∷_, _++_, append-nil}
 use native.Mathlib.Omega.{arith}
+use native.Mathlib.Numerals.{add-one}
 use borrow.Author.Tests.{le-leb, lt-leb}
 use borrow.Rule.Slice.PartMut.{putMid}
-use lib.ListN.{length, take, drop, set, length-append, length-take, length-drop}
-use lib.Seq.{drop-length}
+use lib.ListN.{length, getD, take, drop, set, length-append, length-take, length-drop}
+use lib.Seq.{drop-cons, drop-length}
 use Rattle.wire.specs.declared.status.Status.the-variants as status
 use Rattle.wire.specs.Splice.{splice}
-use Rattle.wire.proofs.Laws.Splice.{splice-next, part-back}
+use Rattle.wire.proofs.Laws.Splice.{length-splice, splice-next, part-back}
 use Rattle.limits.specs.declared.value.Xor.{Xor}
 use Rattle.limits.specs.declared.value.Xor.the-variants as xor
 use Rattle.limits.specs.declared.value.Limits.{Limits}
@@ -38,6 +39,9 @@ pub copied-fits : (w out : List ℕ) → length w ≤ length out → copied w ou
 unfolding copied
 copied-fits w out h = simp (le-leb (length w) (length out) h)
 
+pub length-copied : (w out : List ℕ) → length w ≤ length out → length (copied w out) ≡ length out
+length-copied w out h = rw (copied-fits w out h) (length-splice 0 w out (omega arith))
+
 pub copied-short : (w out : List ℕ) → length out < length w → copied w out ≡ out
 unfolding copied
 copied-short w out h = simp (lt-leb (length w) (length out) h)
@@ -54,36 +58,56 @@ field-written v (x ∷ xs) h =
     let rest : drop 4 xs ≡ [] = ap (λ (n : ℕ). drop n xs) e ∙ drop-length xs in
     ap (λ (l : List ℕ). space ∷ (spellDigits 4 v ++ l)) rest ∙ ap (λ (l : List ℕ). space ∷ l) (append-nil (spellDigits 4 v))
 
--- a part that comes back right after what was written before it
-next : (at n : ℕ) (ds es xs : List ℕ) → length ds ≡ at → length es ≡ n → at + n ≤ length xs
-    → putMid at n (splice 0 ds xs) es ≡ splice 0 (ds ++ es) xs
-next at n ds es xs p q h =
-    let e : at ≡ 0 + length ds = omega arith in
-    part-back at n (splice 0 ds xs) es q ∙ ap (λ (m : ℕ). splice m es (splice 0 ds xs)) e ∙ splice-next 0 ds es xs (omega arith)
+-- the fields of numbers, one right after the other
+unfoldable pub spellFields : List ℕ → List ℕ
+spellFields [] = []
+spellFields (v ∷ vs) = spellField v ++ spellFields vs
+
+length-fields : (vs : List ℕ) → length (spellFields vs) ≡ 5 * length vs
+unfolding spellFields
+length-fields [] = refl
+length-fields (v ∷ vs) = simp (length-append, length-field v, length-fields vs) (omega arith)
+
+pub room-back
+    : (at v : ℕ) (xs : List ℕ) → at + 5 ≤ length xs → 19 ≤ length xs → 19 ≤ length (putMid at 5 xs (spellField v))
+room-back at v xs h room =
+    let f = length-field v in
+    rw (part-back at 5 xs (spellField v) f, length-splice at (spellField v) xs (omega arith)) room
+
+-- the field of the number at i comes back, and the fields after it are left
+pub field-back
+    : (i : ℕ) (vs xs : List ℕ) {all : List ℕ} → i < length vs → 4 + 5 * length vs ≤ length xs
+    → splice (4 + 5 * i) (spellFields (drop i vs)) xs ≡ all
+    → splice (4 + 5 * (i + 1)) (spellFields (drop (i + 1) vs)) (putMid (4 + 5 * i) 5 xs (spellField (getD vs i 0))) ≡ all
+unfolding spellFields
+field-back i vs xs l h e =
+    let v = getD vs i 0 in
+    let f = length-field v in
+    let m : length (drop (suc i) vs) ≡ length vs - suc i = length-drop (suc i) vs in
+    let r = length-fields (drop (suc i) vs) in
+    let at : 4 + 5 * (i + 1) ≡ 4 + 5 * i + length (spellField v) = omega arith in
+    rw (
+      part-back (4 + 5 * i) 5 xs (spellField v) f,
+      at,
+      add-one,
+      splice-next (4 + 5 * i) (spellField v) (spellFields (drop (suc i) vs)) xs (omega arith),
+    ) (rw (drop-cons vs i 0 l) at e)
 
 -- the word, and three fields right after it
 pub limits-written
     : (l : Limits) (out : List ℕ) → 19 ≤ length out
-    → putMid 14 5 (putMid 9 5 (putMid 4 5 (copied (spellXor (l .xor)) out) (spellField (l .width))) (spellField (l .height))) (spellField (l .port))
-    ≡ copied (spellLimits l) out
-unfolding spellLimits
+    → splice 4 (spellFields (l .width ∷ l .height ∷ l .port ∷ [])) (copied (spellXor (l .xor)) out) ≡ copied (spellLimits l) out
+unfolding spellLimits spellFields
 limits-written l out room =
     let x = spellXor (l .xor) in
-    let w = spellField (l .width) in
-    let h = spellField (l .height) in
-    let p = spellField (l .port) in
+    let fs = spellFields (l .width ∷ l .height ∷ l .port ∷ []) in
     let one : length x ≡ 4 = length-xor (l .xor) in
-    let two : length (x ++ w) ≡ 9 = simp (length-append, one, length-field (l .width)) in
-    let three : length (x ++ w ++ h) ≡ 14 = simp (length-append, one, length-field (l .width), length-field (l .height)) in
-    let four : length (x ++ (w ++ (h ++ p))) ≡ 19
-    = simp (length-append, one, length-field (l .width), length-field (l .height), length-field (l .port)) in
-    rw (
-      copied-fits x out (omega arith),
-      next 4 5 x w out one (length-field (l .width)) (omega arith),
-      next 9 5 (x ++ w) h out two (length-field (l .height)) (omega arith),
-      next 14 5 (x ++ w ++ h) p out three (length-field (l .port)) (omega arith),
-      copied-fits (x ++ (w ++ (h ++ p))) out (omega arith),
-    ) (ap (λ (m : List ℕ). splice 0 m out) (append-assoc (x ++ w) h p ∙ append-assoc x w (h ++ p)))
+    let all : spellLimits l ≡ x ++ fs = simp append-nil in
+    let n : length fs ≡ 15 = length-fields (l .width ∷ l .height ∷ l .port ∷ []) in
+    let size = length-limits l in
+    let at : 4 ≡ 0 + length x = omega arith in
+    rw (copied-fits x out (omega arith), copied-fits (spellLimits l) out (omega arith), all)
+    (ap (λ (m : ℕ). splice m fs (splice 0 x out)) at ∙ splice-next 0 x fs out (omega arith))
 
 -- what a value of n bytes gives, where the output is too short and where it is not
 module _ (v : Value) (n : ℕ) (out : List ℕ) (size : length (spelling v) ≡ n) where

@@ -3,33 +3,30 @@ use Prim.Native.Nat.{_≤_}
 use mathlib.Core.Path.{_≡_, refl, _∙_}
 use mathlib.Core.List.{_++_, append-nil}
 use native.Mathlib.Omega.{arith}
-use borrow.Author.Needs.{needs}
 use denote.Ref.{now}
 use lib.ListN.{length, drop, length-set}
 use lib.Seq.{drop-length}
-use Rattle.limits.specs.Hex.{digitOf, spellDigits}
+use Rattle.limits.specs.Hex.{spellDigits}
 use Rattle.limits.proofs.Laws.Hex.{write-last}
 use Rattle.limits.proofs.hex.write.Statement.{statement}
 use Rattle.limits.proofs.hex.write.Tie as tie
 
 abbrev Inv-loop : tie.InvT-loop
-Inv-loop out₀ digits number rest₀ k₀ out rest k =
+Inv-loop out₀ number rest₀ k₀ out rest k =
     (k ≤ length out) × (length out ≡ length out₀) × (spellDigits k rest ++ drop k out ≡ spellDigits (length out₀) number)
 
 abbrev μ-loop : tie.MeasureT-loop
-μ-loop out₀ digits number rest₀ k₀ out rest k = k
+μ-loop out₀ number rest₀ k₀ out rest k = k
 
 loop-holds : tie.Need-loop-holds Inv-loop μ-loop
-loop-holds c = let out = now (c .args .out) in (omega arith, refl, rw (drop-length out) (append-nil _))
+loop-holds c = let out = now (c .before .args .out) in (omega arith, refl, rw (drop-length out) (append-nil _))
 
 loop-again : tie.Need-loop-again Inv-loop μ-loop
-unfolding digitOf
 loop-again c =
-    let l = c .before .before .loop in
-    let s = c .before .before .before in (
+    let l = c .before .before .loop in (
       simp length-set (omega arith),
       simp length-set (l .inv .1),
-      rw (s .pre) (write-last (l .k) (l .rest) (l .out) (omega arith) (omega arith)) ∙ l .inv .2,
+      rw (c .capital-digit .ensures) (write-last (l .k) (l .rest) (l .out) (omega arith) (omega arith)) ∙ l .inv .2,
     )
 
 returns : tie.Need-returns Inv-loop μ-loop
@@ -47,8 +44,8 @@ write-spec =
     μ-loop
     loop-holds
     (λ c. omega arith)
-    (λ c. search needs)
-    (λ c. search needs)
+    (λ c. omega arith)
+    (λ c κs. omega arith)
     (λ c. omega arith)
     (λ c. omega arith)
     loop-again

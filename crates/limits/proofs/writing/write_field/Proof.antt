@@ -22,7 +22,7 @@ returns c =
 same-length : tie.Need-same-length
 same-length c =
     let s = c .before .before .before .before .before in
-    ap length (returns c) ∙ length-field (s .args .number) ∙ sym (s .pre .0)
+    ap length (returns c) ∙ length-field (s .args .number) ∙ sym (s .pre)
 
 pub write-field-spec : {M : Type 1} → statement M
 write-field-spec =
