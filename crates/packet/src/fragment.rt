@@ -11,11 +11,14 @@
 //      28      2  HotSpotYPos
 //      30         ImageData, at offset 0
 ghost use mathlib.Core.Path.{_≡_};
+ghost use Prim.Native.Nat.{min};
+ghost use Rattle.wire.specs.Number.{number};
+ghost use Rattle.wire.specs.Signed.{signed};
 ghost use Rattle.packet.specs.Checks.{firstOf};
+ghost use Rattle.packet.specs.Continuation.{continuationOf, placeOf};
 ghost use mathlib.Core.Bool.{true, false};
 ghost use Rattle.packet.specs.Fragment.{isStart, headerOf, imageData, outside, startFragment, continuationFragment, readFragment};
 ghost use Rattle.packet.specs.Parsing.{bodyChecks, noFragment, refusedAs, parsedAs, parsed};
-use super::continuation;
 use super::continuation::Continuation;
 use super::frame;
 use super::rtp;
@@ -79,28 +82,35 @@ pub fn image_data(packet: &[u8], starts: bool) -> &[u8]
     }
 }
 
-// Whether an offset is negative, or offset plus data goes beyond the total.
-fn is_outside(offset: i32, length: usize, total: u32) -> bool
-    ensures { λ r. ⌜ r ≡ outside offset length total ⌝ }
+// The lesser of two numbers.
+fn least(a: usize, b: usize) -> usize
+    ensures { λ r. ⌜ r ≡ min a b ⌝ }
 {
-    if 0 <= offset {
-        let end = total as usize;
-        if end < length {
-            return true;
-        }
-        return end - length < offset as usize;
-    }
-    true
+    if a < b { a } else { b }
 }
 
-fn start_fields(packet: &[u8]) -> Fragment
+// Whether the offset whose two's complement is `place` is negative, which is `place` above 2,147,483,647, or offset plus data goes beyond
+// the total. One comparison with the lesser of the two limits: it needs the number as a whole.
+fn is_outside(place: u32, length: usize, total: u32) -> bool
+    ensures { λ r. ⌜ r ≡ outside (signed 4 place) length total ⌝ }
+{
+    let end = total as usize;
+    if end < length {
+        return true;
+    }
+    least(end - length, 2147483647) < place as usize
+}
+
+// The fields of a start whose total has been read.
+fn start_fragment(packet: &[u8], total: u32) -> Fragment
+    requires { ⌜ total ≡ number 4 (now packet) 15 ⌝ }
     ensures { λ r. ⌜ r ≡ startFragment (now (packet .entry)) ⌝ }
 {
     let position = start::position(packet);
     let own = start::read(packet);
     Fragment {
         sequence: position.sequence,
-        total: number::u32_at(packet, 15),
+        total: total,
         id: number::u16_at(packet, 19),
         offset: 0,
         starts: true,
@@ -110,17 +120,18 @@ fn start_fields(packet: &[u8]) -> Fragment
     }
 }
 
-fn continuation_fields(packet: &[u8]) -> Fragment
+// The fields of a continuation whose total and offset have been read.
+fn continuation_fragment(packet: &[u8], total: u32, place: u32) -> Fragment
+    requires { ⌜ (total ≡ number 4 (now packet) 15) × (place ≡ placeOf (continuationOf (now packet) .offset)) ⌝ }
     ensures { λ r. ⌜ r ≡ continuationFragment (now (packet .entry)) ⌝ }
 {
     let rtp = rtp::read(packet);
-    let own = continuation::read(packet);
     let none = Start::none();
     Fragment {
         sequence: rtp.sequence,
-        total: number::u32_at(packet, 15),
+        total: total,
         id: number::u16_at(packet, 19),
-        offset: continuation::place_of(own.offset),
+        offset: place,
         starts: false,
         x: 0,
         y: 0,
@@ -154,80 +165,57 @@ fn refused(status: Status) -> Parsed
     }
 }
 
-// The checks of a start after its header and type: PacketMsgSize below 18, 2; too few bytes 1; too many 2; data beyond the total 9.
-fn check_start(packet: &[u8]) -> Status
-    ensures { λ r. ⌜ r ≡ firstOf (bodyChecks true (now (packet .entry))) ⌝ }
-{
-    let size = number::u16_at(packet, 13) as usize;
-    if size < Start::HEADER {
-        return Status::WrongSize;
-    }
-    let end = Rtp::HEADER + size;
-    if packet.len() < end {
-        return Status::Truncated;
-    }
-    if end < packet.len() {
-        return Status::WrongSize;
-    }
-    let total = number::u32_at(packet, 15) as usize;
-    if total < size - Start::HEADER {
-        return Status::OutsideImage;
-    }
-    Status::Accepted
-}
-
-// The checks of a continuation after its header and type: PacketMsgSize below 13, 2; too few bytes 1; too many 2; negative offset, or
-// offset plus data beyond the total, 9.
-fn check_continuation(packet: &[u8]) -> Status
-    ensures { λ r. ⌜ r ≡ firstOf (bodyChecks false (now (packet .entry))) ⌝ }
-{
-    let size = number::u16_at(packet, 13) as usize;
-    if size < Continuation::HEADER {
-        return Status::WrongSize;
-    }
-    let end = Rtp::HEADER + size;
-    if packet.len() < end {
-        return Status::Truncated;
-    }
-    if end < packet.len() {
-        return Status::WrongSize;
-    }
-    let own = continuation::read(packet);
-    if is_outside(
-        own.offset,
-        size - Continuation::HEADER,
-        number::u32_at(packet, 15),
-    ) {
-        return Status::OutsideImage;
-    }
-    Status::Accepted
-}
-
-// A start after its header and type.
+// A start after its header and type: PacketMsgSize below 18, 2; too few bytes 1; too many 2; data beyond the total 9. The total is read once,
+// for the check and for the fragment.
 fn parse_start(packet: &[u8]) -> Parsed
     ensures { λ r. ⌜ r ≡ parsedAs (firstOf (bodyChecks true (now (packet .entry)))) (startFragment (now (packet .entry))) ⌝ }
 {
-    let status = check_start(packet);
-    if status::number(status) != 0 {
-        return refused(status);
+    let size = number::u16_at(packet, 13) as usize;
+    if size < Start::HEADER {
+        return refused(Status::WrongSize);
+    }
+    let end = Rtp::HEADER + size;
+    if packet.len() < end {
+        return refused(Status::Truncated);
+    }
+    if end < packet.len() {
+        return refused(Status::WrongSize);
+    }
+    let total = number::u32_at(packet, 15);
+    let limit = total as usize;
+    if limit < size - Start::HEADER {
+        return refused(Status::OutsideImage);
     }
     Parsed {
-        status: status,
-        fragment: start_fields(packet),
+        status: Status::Accepted,
+        fragment: start_fragment(packet, total),
     }
 }
 
-// A continuation after its header and type.
+// A continuation after its header and type: PacketMsgSize below 13, 2; too few bytes 1; too many 2; negative offset, or offset plus data
+// beyond the total, 9. Total and offset are read once, for the check and for the fragment.
 fn parse_continuation(packet: &[u8]) -> Parsed
     ensures { λ r. ⌜ r ≡ parsedAs (firstOf (bodyChecks false (now (packet .entry)))) (continuationFragment (now (packet .entry))) ⌝ }
 {
-    let status = check_continuation(packet);
-    if status::number(status) != 0 {
-        return refused(status);
+    let size = number::u16_at(packet, 13) as usize;
+    if size < Continuation::HEADER {
+        return refused(Status::WrongSize);
+    }
+    let end = Rtp::HEADER + size;
+    if packet.len() < end {
+        return refused(Status::Truncated);
+    }
+    if end < packet.len() {
+        return refused(Status::WrongSize);
+    }
+    let total = number::u32_at(packet, 15);
+    let place = number::u32_at(packet, 21);
+    if is_outside(place, size - Continuation::HEADER, total) {
+        return refused(Status::OutsideImage);
     }
     Parsed {
-        status: status,
-        fragment: continuation_fields(packet),
+        status: Status::Accepted,
+        fragment: continuation_fragment(packet, total, place),
     }
 }
 

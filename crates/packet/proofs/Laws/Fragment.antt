@@ -1,19 +1,16 @@
 -- Laws of fragments: check 9 case by case, and what holds of an accepted packet. Assumes nothing.
-use Prim.Native.Nat.{ℕ, _+_, _-_, _≤_, _<_}
+use Prim.Native.Nat.{ℕ, _+_, _-_, _*_, _^_, min, _≤_, _<_}
 use mathlib.Core.Path.{_≡_, refl, sym, ap, _∙_}
 use mathlib.Core.Bool.{Bool, true, false, cond, false≢true}
 use mathlib.Core.List.{List, [], _∷_}
 use native.Mathlib.Omega.{arith}
 use native.Mathlib.Decide.{decLt}
-use borrow.Author.Tests.{lt-ltb, le-ltb, ltb-false, leb-false}
-use lib.Dec.{ltb, T}
-use lib.IntN.{ℤ, pos, negsuc, natAbs}
+use borrow.Author.Tests.{lt-ltb, le-ltb, ltb-false}
+use lib.Dec.{ltb}
+use lib.IntN.{ℤ, pos, negsuc}
 use lib.ListN.{length, length-drop}
-use lib.Signed.{leZ, nonNeg}
-use mir.Syntax.{w32, w64}
-use mir.Val.{Fits, SFits}
-use mir.ValLaws.{ofZ-fits}
 use Rattle.wire.specs.Number.{number}
+use Rattle.wire.specs.Signed.{signed}
 use Rattle.wire.specs.declared.status.Status.{Status}
 use Rattle.wire.specs.declared.status.Status.the-variants as status
 use Rattle.packet.specs.declared.fragment.Fragment.{Fragment}
@@ -30,19 +27,30 @@ unfolding outside
 outside-large (pos o) n t h = lt-ltb t (o + n) (omega arith)
 outside-large (negsuc k) n t h = refl
 
-pub outside-negative : (z : ℤ) (n t : ℕ) → leZ (pos 0) z ≡ false → outside z n t ≡ true
-unfolding outside
-outside-negative (pos o) n t e = absurd (let no : ⊥ = omega (arith, leb-false 0 o e) in no)
-outside-negative (negsuc k) n t e = refl
+-- an offset by its two's complement x: both limits in one comparison, and inside them the place is x itself
+module _ (x : ℕ) (f : x < 256 ^ 4) (n t : ℕ) where
+  pub outside-limit : n ≤ t → ltb (min (t - n) 2147483647) x ≡ outside (signed 4 x) n t
+  unfolding outside signed
+  outside-limit h =
+      elim (decLt (2 * x) (256 ^ 4)) [
+        | yes l ↦ simp (lt-ltb (2 * x) (256 ^ 4) l) (beyond l h)
+        | no l ↦ simp (le-ltb (2 * x) (256 ^ 4) (omega arith), lt-ltb x (256 ^ 4) f) (lt-ltb (min (t - n) 2147483647) x (omega arith))
+      ]
+    where
+      beyond : 2 * x < 256 ^ 4 → n ≤ t → ltb (min (t - n) 2147483647) x ≡ ltb t (x + n)
+      beyond l h =
+          elim (decLt t (x + n)) [
+            | yes k ↦ lt-ltb (min (t - n) 2147483647) x (omega arith) ∙ sym (lt-ltb t (x + n) k)
+            | no k ↦ le-ltb (min (t - n) 2147483647) x (omega arith) ∙ sym (le-ltb t (x + n) (omega arith))
+          ]
 
-pub outside-beyond : (z : ℤ) (n t : ℕ) → leZ (pos 0) z ≡ true → n ≤ t → ltb (t - n) (natAbs z) ≡ outside z n t
-unfolding outside
-outside-beyond (pos o) n t e h =
-    elim (decLt (t - n) o) [
-      | yes l ↦ lt-ltb (t - n) o l ∙ sym (lt-ltb t (o + n) (omega arith))
-      | no l ↦ le-ltb (t - n) o (omega arith) ∙ sym (le-ltb t (o + n) (omega arith))
-    ]
-outside-beyond (negsuc k) n t e h = let bad : _≡_ {A = ℕ} 0 1 = cc in absurd (let no : ⊥ = omega arith in no)
+  pub inside-place : outside (signed 4 x) n t ≡ false → x ≡ placeOf (signed 4 x)
+  unfolding outside signed placeOf
+  inside-place e =
+      elim (decLt (2 * x) (256 ^ 4)) [
+        | yes l ↦ simp (lt-ltb (2 * x) (256 ^ 4) l)
+        | no l ↦ absurd (false≢true (sym (simp (le-ltb (2 * x) (256 ^ 4) (omega arith), lt-ltb x (256 ^ 4) f) at e)))
+      ]
 
 -- the data's length by PacketMsgSize, where that is the packet's own size
 data-length : (starts : Bool) (p : List ℕ) (size : ℕ) → length p ≡ 12 + size → length (imageData starts p) ≡ size - headerOf starts
@@ -56,23 +64,9 @@ start-outside p size t e = rw (data-length true p size e) (ap (ltb t) (let n : 0
 
 pub continuation-outside
     : (p : List ℕ) (size t : ℕ) → length p ≡ 12 + size
-    → outside (offsetOf false p) (length (imageData false p)) t ≡ outside (continuationOf p .offset) (size - 13) t
-unfolding offsetOf headerOf
+    → outside (offsetOf false p) (length (imageData false p)) t ≡ outside (signed 4 (number 4 p 21)) (size - 13) t
+unfolding offsetOf headerOf continuationOf
 continuation-outside p size t e = rw (data-length false p size e)
-
-pub place-is : (z : ℤ) → leZ (pos 0) z ≡ true → natAbs z ≡ placeOf z
-unfolding placeOf
-place-is (pos o) e = refl
-place-is (negsuc k) e = let bad : _≡_ {A = ℕ} 0 1 = cc in absurd (let no : ⊥ = omega arith in no)
-
-pub place-none : (z : ℤ) → leZ (pos 0) z ≡ false → 0 ≡ placeOf z
-unfolding placeOf
-place-none (pos o) e = absurd (let no : ⊥ = omega (arith, leb-false 0 o e) in no)
-place-none (negsuc k) e = refl
-
-pub not-negative : (z : ℤ) → SFits w32 z → leZ (pos 0) z ≡ true → T (nonNeg z) × (Fits w32 (natAbs z) × Fits w64 (natAbs z))
-not-negative (pos k) f e = let g = ofZ-fits w32 (pos k) f in (tt, (g, record { fits = omega (arith, g .fits) }))
-not-negative (negsuc k) f e = let bad : _≡_ {A = ℕ} 0 1 = cc in absurd (let no : ⊥ = omega arith in no)
 
 -- the checks on the frame, then 9
 module _ (starts : Bool) (p : List ℕ) where
