@@ -1,6 +1,6 @@
 // Writes a connection message from its record: the header, then its TLVs by rising type.
 ghost use mathlib.Core.Path.{_≡_};
-ghost use mathlib.Core.Bool.{true};
+ghost use mathlib.Core.Bool.{true, cond};
 ghost use Prim.Native.Nat.{_+_, _≤_};
 ghost use lib.ListN.{length};
 ghost use Rattle.wire.specs.Splice.{splice};
@@ -45,28 +45,16 @@ fn field_ok(n: usize, message: Message, kind: u8) -> bool
     rules::length_ok(kind, len)
 }
 
-// Whether each of the record's fields can be written.
-fn fields_ok(n: usize, message: Message) -> bool
-    ensures { λ r. ⌜ r ≡ allBelow 8 (fieldOk n message) ⌝ }
-{
-    let mut kind: u8 = 0;
-    while kind < 8 {
-        if !field_ok(n, message, kind) {
-            return false;
-        }
-        kind += 1;
-    }
-    true
-}
-
-// The size of the message of a record whose fields can be written.
+// The size of the record's message, or 0 where one of its fields can't be written.
 fn size_of(n: usize, message: Message) -> usize
-    requires { ⌜ allBelow 8 (fieldOk n message) ≡ true ⌝ }
-    ensures { λ r. ⌜ r ≡ sizeTo message 8 ⌝ }
+    ensures { λ r. ⌜ r ≡ cond (allBelow 8 (fieldOk n message)) (sizeTo message 8) 0 ⌝ }
 {
     let mut size: usize = 4;
     let mut kind: u8 = 0;
     while kind < 8 {
+        if !field_ok(n, message, kind) {
+            return 0;
+        }
         let value = record::field_of(message, kind);
         if value.present {
             size = size + 3 + value.len as usize;
@@ -129,13 +117,13 @@ pub fn write(bytes: &[u8], message: Message, out: &mut [u8]) -> Written
             place: 0,
         };
     }
-    if !fields_ok(bytes.len(), message) {
+    let size = size_of(bytes.len(), message);
+    if size == 0 {
         return Written::Refused {
             status: Status::NotWritable,
             place: 0,
         };
     }
-    let size = size_of(bytes.len(), message);
     if 65535 < size {
         return Written::Refused {
             status: Status::NotWritable,

@@ -7,7 +7,7 @@ use ashlarsilk::cursor::{self as ours, LARGEST_PICTURE};
 use reference::cursor as theirs;
 
 use crate::page::Paged;
-use crate::table::{row, row_with_copy, Goal};
+use crate::table::{Goal, Table};
 
 /// The most data of a continuation: its PacketMsgSize is 65,535.
 const MOST_DATA: usize = 65_535 - 13;
@@ -142,16 +142,16 @@ fn copy(fragments: &[Fragment], image: &mut [u8]) {
 }
 
 /// Storing the fragments of whole pictures: fresh ones, the same again, and conflicting ones.
-pub fn storing() {
+pub fn storing(table: &mut Table) {
     for size in FRAGMENTS {
-        stored(LARGEST_PICTURE, size);
+        stored(table, LARGEST_PICTURE, size);
     }
     for total in PICTURES.into_iter().filter(|total| *total < LARGEST_PICTURE) {
-        stored(total, USUAL);
+        stored(table, total, USUAL);
     }
 }
 
-fn stored(total: usize, size: usize) {
+fn stored(table: &mut Table, total: usize, size: usize) {
     let (first, second) = (fragments(total, size, 0), fragments(total, size, 0x5A));
     let conflicting: Vec<Fragment> = second.iter().map(Fragment::conflicting).collect();
     let bytes = first.iter().map(|fragment| fragment.data.len()).max().unwrap_or(0);
@@ -162,7 +162,7 @@ fn stored(total: usize, size: usize) {
 
     // Two pictures in turn, so that each finds other bytes. Without an opened picture the first
     // fragment opens it, which clears the marks.
-    row_with_copy(
+    table.row_with_copy(
         &format!("store a fresh fragment {of}"),
         bytes,
         2 * first.len(),
@@ -187,7 +187,7 @@ fn stored(total: usize, size: usize) {
     assert_eq!((&*library.image, &*library.marks), (&*rust.image, &*rust.marks));
     assert_eq!(*library.image, *image);
     for (work, fragments) in [("a repeated", &second), ("a conflicting", &conflicting)] {
-        row_with_copy(
+        table.row_with_copy(
             &format!("store {work} fragment {of}"),
             bytes,
             fragments.len(),
@@ -201,12 +201,12 @@ fn stored(total: usize, size: usize) {
 }
 
 /// Position packets: one that is newer, and one that is not.
-pub fn positions() {
+pub fn positions(table: &mut Table) {
     let packets: Vec<Vec<u8>> = (0..64).map(|n| position_packet(n * 1000)).collect();
     let mut pointer = ours::Pointer::fresh();
     let mut other = theirs::Pointer::fresh();
     let (mut n, mut m) = (0, 0);
-    row(
+    table.row(
         "a newer position",
         19,
         &mut || {
@@ -223,7 +223,7 @@ pub fn positions() {
     let again = &packets[0];
     let _ = ours::position(&mut pointer, again);
     other = theirs::position(theirs::Pointer::fresh(), again).expect("the packet is accepted");
-    row(
+    table.row(
         "a position that is not newer",
         19,
         &mut || {
@@ -236,7 +236,7 @@ pub fn positions() {
 }
 
 /// The completeness question for a picture whose places are all filled, and with the last one empty.
-pub fn completeness() {
+pub fn completeness(table: &mut Table) {
     for total in PICTURES {
         let fragments = fragments(total, USUAL, 0);
         let (mut library, mut rust) = (Ours::new(total), Theirs::new(total));
@@ -251,7 +251,7 @@ pub fn completeness() {
                 Ok(last == 1)
             );
             let goal = if total == LARGEST_PICTURE { Goal::Copies(2.0) } else { Goal::Rust };
-            row_with_copy(
+            table.row_with_copy(
                 work,
                 total,
                 1,

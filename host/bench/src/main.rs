@@ -11,12 +11,21 @@ mod page;
 mod table;
 mod timing;
 
+use table::Table;
+
+/// The rounds of a run: a moment in which something else has the machine is over by the next.
+const ROUNDS: usize = 8;
+
 fn main() {
-    table::head();
-    messages::messages();
-    messages::steps();
-    messages::limits();
-    cursor::positions();
-    cursor::storing();
-    cursor::completeness();
+    let mut table = Table::default();
+    for _ in 0..ROUNDS {
+        table.begin();
+        messages::messages(&mut table);
+        messages::steps(&mut table);
+        messages::limits(&mut table);
+        cursor::positions(&mut table);
+        cursor::storing(&mut table);
+        cursor::completeness(&mut table);
+    }
+    table.print();
 }

@@ -6,7 +6,7 @@ use ashlarsilk::{Command, Limits, Message, Session};
 use reference::{limits, message, session};
 
 use crate::page::Paged;
-use crate::table::row;
+use crate::table::Table;
 
 /// A message: its header and these TLVs, each a type and a value.
 fn built(command: u8, tlvs: &[(u8, &[u8])]) -> Vec<u8> {
@@ -35,28 +35,32 @@ fn handshake(size: usize) -> Vec<u8> {
 const SIZES: [usize; 6] = [64, 256, 1024, 4096, 16_384, 65_535];
 
 /// Reading and writing messages.
-pub fn messages() {
+pub fn messages(table: &mut Table) {
     let ready = source_ready();
-    read("read a Source Ready, a new record", &ready);
-    read_into("read a Source Ready", &ready);
-    read_into("read a Session Request", &built(4, &[(0, &[0x41; 40]), (3, &[7; 16]), (5, &[3])]));
-    read_into("read a PIN Response", &built(6, &[(3, &[7; 16]), (6, &[9; 32]), (7, &[0])]));
+    read(table, "read a Source Ready, a new record", &ready);
+    read_into(table, "read a Source Ready", &ready);
+    read_into(
+        table,
+        "read a Session Request",
+        &built(4, &[(0, &[0x41; 40]), (3, &[7; 16]), (5, &[3])]),
+    );
+    read_into(table, "read a PIN Response", &built(6, &[(3, &[7; 16]), (6, &[9; 32]), (7, &[0])]));
     for size in SIZES {
-        read_into("read a Security Handshake", &handshake(size));
+        read_into(table, "read a Security Handshake", &handshake(size));
     }
     let mut damaged = ready.clone();
     damaged[9] = 1;
-    read_into("refuse a Source Ready", &damaged);
-    write("write a Source Ready", &ready);
+    read_into(table, "refuse a Source Ready", &damaged);
+    write(table, "write a Source Ready", &ready);
     for size in SIZES {
-        write("write a Security Handshake", &handshake(size));
+        write(table, "write a Security Handshake", &handshake(size));
     }
 }
 
 /// Into a record that the host keeps.
-fn read_into(work: &str, bytes: &[u8]) {
+fn read_into(table: &mut Table, work: &str, bytes: &[u8]) {
     let mut message = Message::new(Command(0));
-    row(
+    table.row(
         work,
         bytes.len(),
         &mut || {
@@ -69,8 +73,8 @@ fn read_into(work: &str, bytes: &[u8]) {
     );
 }
 
-fn read(work: &str, bytes: &[u8]) {
-    row(
+fn read(table: &mut Table, work: &str, bytes: &[u8]) {
+    table.row(
         work,
         bytes.len(),
         &mut || {
@@ -82,11 +86,11 @@ fn read(work: &str, bytes: &[u8]) {
     );
 }
 
-fn write(work: &str, bytes: &[u8]) {
+fn write(table: &mut Table, work: &str, bytes: &[u8]) {
     let ours = Message::read(bytes).expect("the message is accepted");
     let theirs = message::read(bytes).expect("the message is accepted");
     let (mut out, mut other) = (Paged::zeros(bytes.len()), Paged::zeros(bytes.len()));
-    row(
+    table.row(
         work,
         bytes.len(),
         &mut || {
@@ -99,9 +103,9 @@ fn write(work: &str, bytes: &[u8]) {
 }
 
 /// A step of the session by a message.
-pub fn steps() {
+pub fn steps(table: &mut Table) {
     let bytes = source_ready();
-    row(
+    table.row(
         "step a fresh session by a Source Ready",
         bytes.len(),
         &mut || {
@@ -116,10 +120,10 @@ pub fn steps() {
 }
 
 /// Reading and writing cursor limits values.
-pub fn limits() {
+pub fn limits(table: &mut Table) {
     for text in ["full 0100 0100 C351", "none", "full 0100 0100 C35G"] {
         let text = text.as_bytes();
-        row(
+        table.row(
             "read a cursor limits value",
             text.len(),
             &mut || {
@@ -134,7 +138,7 @@ pub fn limits() {
     let ours = Limits::read(text).expect("the value is accepted");
     let theirs = limits::read(text).expect("the value is accepted");
     let (mut out, mut other) = ([0; 19], [0; 19]);
-    row(
+    table.row(
         "write a cursor limits value",
         text.len(),
         &mut || {

@@ -1,7 +1,7 @@
 -- What is said of the fields of the types below t, by one type more; and the writer's answers. Assumes nothing.
 use Prim.Native.Nat.{ℕ, zero, suc, _+_, _-_, _%_, _<_, _≤_}
 use mathlib.Core.Path.{_≡_, refl, ap, _∙_}
-use mathlib.Core.Bool.{true, false, not}
+use mathlib.Core.Bool.{Bool, true, false, not, cond}
 use mathlib.Core.List.{List, [], _∷_, _++_, append-nil}
 use mathlib.Core.Logic.{⊎-elim}
 use native.Mathlib.Omega.{arith}
@@ -25,7 +25,7 @@ use Rattle.message.specs.Record.{fieldOf, valueOf, tlvSize, sizeTo}
 use Rattle.message_writer.specs.Writing.{fieldOk, writable, tlvBytes, bodyTo, headBytes, messageOf, writeAnswer, output}
 use Rattle.wire.proofs.Laws.Bool.{either, both}
 use Rattle.message.proofs.Laws.Rules.{length-held}
-use Rattle.message.proofs.Laws.Size.{size-grows, size-there}
+use Rattle.message.proofs.Laws.Size.{size-grows, size-least, size-there}
 use Rattle.wire.proofs.Laws.Below.{below-all}
 
 -- ---- bytes in the output
@@ -188,3 +188,21 @@ module _ (s : List ℕ) (m : Message) (out : List ℕ) where
         ∙ splice-front (messageOf s m) out
         ∙ ap (λ (k : ℕ). messageOf s m ++ drop k out) l
         ∙ wrote h .1
+
+-- ---- the size, or 0
+
+or-zero : (b : Bool) (x r : ℕ) → r ≡ cond b x 0 → 4 ≤ x → r ≡ 0 → b ≡ false
+or-zero true x r e h z = absurd (let no : ⊥ = omega arith in no)
+or-zero false x r e h z = refl
+
+or-size : (b : Bool) (x r : ℕ) → r ≡ cond b x 0 → (r ≡ 0 → ⊥) → (b ≡ true) × (r ≡ x)
+or-size true x r e n = (refl, e)
+or-size false x r e n = absurd (n e)
+
+-- A size is 4 or more, so that 0 says that a field can't be written, and any other number is the size.
+module _ (n : ℕ) (m : Message) (r : ℕ) (e : r ≡ cond (allBelow 8 (fieldOk n m)) (sizeTo m 8) 0) where
+  pub sized-not : r ≡ 0 → allBelow 8 (fieldOk n m) ≡ false
+  sized-not = or-zero (allBelow 8 (fieldOk n m)) (sizeTo m 8) r e (size-least m 8)
+
+  pub sized : (r ≡ 0 → ⊥) → (allBelow 8 (fieldOk n m) ≡ true) × (r ≡ sizeTo m 8)
+  sized = or-size (allBelow 8 (fieldOk n m)) (sizeTo m 8) r e
