@@ -32,14 +32,14 @@ fn write_field(out: &mut [u8], number: u16)
     hex::write(&mut out[1..5], number);
 }
 
-// Writes limits into the first 19 bytes; the numbers in a loop, so that `write_field` has a single caller and is inlined there.
+// Writes limits into the first 19 bytes: the numbers in a loop, so that `write_field` has a single caller and is inlined there, and the word last,
+// so that it stays one store in the compiled code.
 fn write_limits(out: &mut [u8], limits: Limits)
     requires { ⌜ 19 ≤ length (now out) ⌝ }
     ensures { λ _. ⌜ now (out .exit) ≡ copied (spellLimits limits) (now (out .entry)) ⌝ }
 {
     let xor = limits.xor;
     let word = word_of(xor);
-    word::copy(out, &word);
     let numbers = [limits.width, limits.height, limits.port];
     let mut i = 0;
     while i < 3 {
@@ -48,6 +48,7 @@ fn write_limits(out: &mut [u8], limits: Limits)
         write_field(&mut out[at..end], numbers[i]);
         i += 1;
     }
+    word::copy(out, &word);
 }
 
 // Writes a value into the first bytes of `out` and answers their number; where `out` is too short, nothing changes.

@@ -1,13 +1,13 @@
 -- What is written part by part is the spelling, written at once. Assumes nothing.
 use Prim.Native.Nat.{ℕ, suc, _+_, _-_, _*_, _≤_, _<_}
 use mathlib.Core.Path.{_≡_, refl, sym, ap, _∙_}
-use mathlib.Core.List.{List, [], _∷_, _++_, append-nil}
+use mathlib.Core.List.{List, [], _∷_, _++_, append-assoc, append-nil}
 use native.Mathlib.Omega.{arith}
 use native.Mathlib.Numerals.{add-one}
 use borrow.Author.Tests.{le-leb, lt-leb}
 use borrow.Rule.Slice.PartMut.{putMid}
 use lib.ListN.{length, getD, take, drop, set, length-append, length-take, length-drop}
-use lib.Seq.{drop-cons, drop-length}
+use lib.Seq.{drop-append-seam, drop-cons, drop-length, length-take-le}
 use Rattle.wire.specs.declared.status.Status.the-variants as status
 use Rattle.wire.specs.Splice.{splice}
 use Rattle.wire.proofs.Laws.Splice.{length-splice, splice-next, part-back}
@@ -93,10 +93,25 @@ field-back i vs xs l h e =
       splice-next (4 + 5 * i) (spellField v) (spellFields (drop (suc i) vs)) xs (omega arith),
     ) (rw (drop-cons vs i 0 l) at e)
 
--- the word, and three fields right after it
+-- what stands after the first places stays when these are written
+over-first : (x fs out : List ℕ) → length x + length fs ≤ length out → splice 0 x (splice (length x) fs out) ≡ splice 0 (x ++ fs) out
+unfolding splice
+over-first x fs out h =
+    let front : length (take (length x) out) ≡ length x = length-take-le (length x) out (omega arith) in
+    let rest = fs ++ drop (length x + length fs) out in
+    let past : drop (length x) (take (length x) out ++ rest) ≡ rest
+    = ap (λ (n : ℕ). drop n (take (length x) out ++ rest)) (sym front) ∙ drop-append-seam (take (length x) out) rest in
+    let zero-on : 0 + length x ≡ length x = omega arith in
+    let both : length x + length fs ≡ 0 + length (x ++ fs) = omega (arith, length-append x fs) in
+    ap (λ (n : ℕ). x ++ drop n (take (length x) out ++ rest)) zero-on
+    ∙ ap (λ (l : List ℕ). x ++ l) past
+    ∙ sym (append-assoc x fs (drop (length x + length fs) out))
+    ∙ ap (λ (n : ℕ). (x ++ fs) ++ drop n out) both
+
+-- three fields, and the word right before them
 pub limits-written
     : (l : Limits) (out : List ℕ) → 19 ≤ length out
-    → splice 4 (spellFields (l .width ∷ l .height ∷ l .port ∷ [])) (copied (spellXor (l .xor)) out) ≡ copied (spellLimits l) out
+    → copied (spellXor (l .xor)) (splice 4 (spellFields (l .width ∷ l .height ∷ l .port ∷ [])) out) ≡ copied (spellLimits l) out
 unfolding spellLimits spellFields
 limits-written l out room =
     let x = spellXor (l .xor) in
@@ -105,9 +120,9 @@ limits-written l out room =
     let all : spellLimits l ≡ x ++ fs = simp append-nil in
     let n : length fs ≡ 15 = length-fields (l .width ∷ l .height ∷ l .port ∷ []) in
     let size = length-limits l in
-    let at : 4 ≡ 0 + length x = omega arith in
-    rw (copied-fits x out (omega arith), copied-fits (spellLimits l) out (omega arith), all)
-    (ap (λ (m : ℕ). splice m fs (splice 0 x out)) at ∙ splice-next 0 x fs out (omega arith))
+    let same : length (splice 4 fs out) ≡ length out = length-splice 4 fs out (omega arith) in
+    rw (copied-fits x (splice 4 fs out) (omega arith), copied-fits (spellLimits l) out (omega arith), all)
+    (ap (λ (m : ℕ). splice 0 x (splice m fs out)) (sym one) ∙ over-first x fs out (omega arith))
 
 -- what a value of n bytes gives, where the output is too short and where it is not
 module _ (v : Value) (n : ℕ) (out : List ℕ) (size : length (spelling v) ≡ n) where

@@ -7,26 +7,20 @@ use denote.Ref.{now}
 use lib.ListN.{length, drop}
 use Rattle.wire.specs.Splice.{splice}
 use Rattle.wire.proofs.Laws.Splice.{splice-none}
-use Rattle.limits.specs.Writing.{spellXor, spellLimits}
-use Rattle.limits.proofs.Laws.Writing.{length-xor, length-limits, length-copied, length-part, spellFields, room-back, field-back, limits-written}
+use Rattle.limits.specs.Writing.{spellLimits}
+use Rattle.limits.proofs.Laws.Writing.{length-limits, length-copied, length-part, spellFields, room-back, field-back, limits-written}
 use Rattle.limits.proofs.writing.write_limits.Statement.{statement}
 use Rattle.limits.proofs.writing.write_limits.Tie as tie
 
 abbrev Inv-loop : tie.InvT-loop
-Inv-loop out₀ numbers i₀ out i =
+Inv-loop out₀ word numbers i₀ out i =
     (i ≤ 3) × (19 ≤ length out) × (splice (4 + 5 * i) (spellFields (drop i numbers)) out ≡ splice 4 (spellFields numbers) out₀)
 
 abbrev μ-loop : tie.MeasureT-loop
-μ-loop out₀ numbers i₀ out i = 3 - i
+μ-loop out₀ word numbers i₀ out i = 3 - i
 
 loop-holds : tie.Need-loop-holds Inv-loop μ-loop
-loop-holds c =
-    let k = c .before .before in
-    let w = k .before .before .before in
-    let s = w .before .before in
-    let x = length-xor (s .args .limits .xor) in
-    let n = length-copied (spellXor (s .args .limits .xor)) (now (s .args .out)) (omega arith) in
-    (omega arith, rw (k .copy .ensures, w .word-of .ensures) (omega arith), refl)
+loop-holds c = (omega arith, c .before .before .pre, refl)
 
 write-field-requires : tie.Need-write-field-requires Inv-loop μ-loop
 write-field-requires c κs =
@@ -47,13 +41,13 @@ loop-again c =
 returns : tie.Need-returns Inv-loop μ-loop
 unfolding spellFields
 returns c =
-    let l = c .before .loop in
-    let k = c .before .before .before .before in
-    let w = k .before .before .before in
+    let k = c .before .before in
+    let l = k .before .before .before .before .loop in
+    let w = k .before .before .before .before .before in
     let s = w .before .before in
     let z : l .i ≡ 3 = omega arith in
-    sym (splice-none 19 (l .out)) ∙ (rw z at (l .inv .2))
-    ∙ rw (k .copy .ensures, w .word-of .ensures) (limits-written (s .args .limits) (now (s .args .out)) (s .pre))
+    let fields = sym (splice-none 19 (l .out)) ∙ (rw z at (l .inv .2)) in
+    rw (k .copy .ensures, w .word-of .ensures, fields) (limits-written (s .args .limits) (now (s .args .out)) (s .pre))
 
 same-length : tie.Need-same-length Inv-loop μ-loop
 same-length c =
@@ -68,8 +62,6 @@ write-limits-spec =
     Inv-loop
     μ-loop
     (λ c κs. search needs)
-    (λ c. search needs)
-    (λ c κs. search needs)
     loop-holds
     (λ c. omega arith)
     (λ c. omega arith)
@@ -83,5 +75,7 @@ write-limits-spec =
     (λ c. omega arith)
     (λ c. omega arith)
     loop-again
+    (λ c. search needs)
+    (λ c κs. search needs)
     same-length
     returns)
