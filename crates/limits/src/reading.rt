@@ -65,11 +65,12 @@ pub fn read(bytes: &[u8]) -> Answer
         return not_grammar();
     }
     let support = &bytes[0..4];
-    if word::spelled(support, b"none") {
-        return read_limits(bytes, Xor::None);
-    }
-    if word::spelled(support, b"full") {
-        return read_limits(bytes, Xor::Full);
-    }
-    not_grammar()
+    let xor = if word::spelled(support, b"none") {
+        Xor::None
+    } else if word::spelled(support, b"full") {
+        Xor::Full
+    } else {
+        return not_grammar();
+    };
+    read_limits(bytes, xor)
 }

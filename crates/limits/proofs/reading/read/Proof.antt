@@ -1,4 +1,5 @@
--- The tests are those of the definition, in its order. Assumes nothing.
+-- The tests are those of the definition, in its order; the word of the xor support is known where the numbers are read. Assumes nothing.
+use mathlib.Core.Logic.{⊎-elim}
 use borrow.Author.Needs.{needs}
 use borrow.Author.Tests.{eq-eqb, ne-eqb}
 use Rattle.limits.specs.Reading.{readValue}
@@ -18,37 +19,6 @@ returns-2 c =
 returns-3 : tie.Need-returns-3
 unfolding readValue
 returns-3 c =
-    let two = c .before .before in
-    let f = two .before .before .before in
-    simp (
-      ← f .before .before .spelled .ensures,
-      f .before .if1 .left,
-      eq-eqb _ _ (f .if2 .left),
-      ← two .spelled2 .ensures,
-      c .before .if3 .taken,
-      ← c .read-limits .ensures,
-    )
-
-returns-4 : tie.Need-returns-4
-unfolding readValue
-returns-4 c =
-    let three = c .before .before in
-    let two = three .before .before .before in
-    let f = two .before .before .before in
-    simp (
-      ← f .before .before .spelled .ensures,
-      f .before .if1 .left,
-      eq-eqb _ _ (f .if2 .left),
-      ← two .spelled2 .ensures,
-      three .before .before .if3 .left,
-      ← three .spelled3 .ensures,
-      c .before .if4 .taken,
-      ← c .read-limits2 .ensures,
-    )
-
-returns-5 : tie.Need-returns-5
-unfolding readValue
-returns-5 c =
     let three = c .before .before in
     let two = three .before .before .before in
     let f = two .before .before .before in
@@ -62,6 +32,34 @@ returns-5 c =
       ← three .spelled3 .ensures,
       c .before .if4 .left,
     )
+
+returns-4 : tie.Need-returns-4
+unfolding readValue
+returns-4 c =
+    let two = c .before .before in
+    let f = two .before .before .before in
+    ⊎-elim
+    (λ w. simp (
+      ← f .before .before .spelled .ensures,
+      f .before .if1 .left,
+      eq-eqb _ _ (f .if2 .left),
+      ← two .spelled2 .ensures,
+      w .0 .taken,
+      c .read-limits .ensures,
+      w .1,
+    ))
+    (λ w. simp (
+      ← f .before .before .spelled .ensures,
+      f .before .if1 .left,
+      eq-eqb _ _ (f .if2 .left),
+      ← two .spelled2 .ensures,
+      w .0 .left,
+      ← w .2 .ensures,
+      w .3 .taken,
+      c .read-limits .ensures,
+      w .4,
+    ))
+    (c .before .if3 .came)
 
 pub read-spec : {M : Type 1} → statement M
 read-spec =
@@ -77,11 +75,9 @@ read-spec =
     (λ c. search needs)
     (λ c. search needs)
     (λ c κs. search needs)
-    (λ c κs. search needs)
-    returns-3
     (λ c. search needs)
     (λ c κs. search needs)
     (λ c κs. search needs)
-    returns-4
+    returns-3
     (λ c κs. search needs)
-    returns-5)
+    returns-4)
