@@ -1,5 +1,5 @@
--- What the walk of the exported call leaves: for each TLV type the place and the length of its value, as two lists. Assumes nothing.
-use Prim.Native.Nat.{ℕ}
+-- What the walk of the exported call leaves: for each TLV type the place and the length of its value, as one number. Assumes nothing.
+use Prim.Native.Nat.{ℕ, _/_, _%_}
 use mathlib.Core.Path.{_≡_}
 use mathlib.Core.Bool.{not}
 use mathlib.Core.List.{List}
@@ -14,24 +14,28 @@ use Rattle.message.specs.declared.reader.Answer.the-variants as answer
 abbrev pub none : List ℕ
 none = replicate 8 0
 
--- a value of n bytes from `at` on; none begins at 0, where the header stands
-unfoldable pub fieldFrom : ℕ → ℕ → Field
-fieldFrom at n = record { present = not (eqb at 0); at = at; len = n }
+-- what the length is multiplied by beside the place: 256 ^ 4, since both have four bytes in the record
+abbrev pub wide : ℕ
+wide = 4294967296
 
--- the record of command c with the values at these places, of these lengths
-unfoldable pub messageFrom : ℕ → List ℕ → List ℕ → Message
-messageFrom c places lengths =
+-- the field of such a number; no value begins at 0, where the header stands, so 0 is none
+unfoldable pub fieldFrom : ℕ → Field
+fieldFrom v = record { present = not (eqb v 0); at = v % wide; len = v / wide }
+
+-- the record of command c with these values
+unfoldable pub messageFrom : ℕ → List ℕ → Message
+messageFrom c values =
     record {
       command = c;
-      «friendly_name» = fieldFrom (getD places 0 0) (getD lengths 0 0);
-      «rtsp_port» = fieldFrom (getD places 2 0) (getD lengths 2 0);
-      «source_id» = fieldFrom (getD places 3 0) (getD lengths 3 0);
-      «security_token» = fieldFrom (getD places 4 0) (getD lengths 4 0);
-      «security_options» = fieldFrom (getD places 5 0) (getD lengths 5 0);
-      «pin_challenge» = fieldFrom (getD places 6 0) (getD lengths 6 0);
-      «pin_reason» = fieldFrom (getD places 7 0) (getD lengths 7 0);
+      «friendly_name» = fieldFrom (getD values 0 0);
+      «rtsp_port» = fieldFrom (getD values 2 0);
+      «source_id» = fieldFrom (getD values 3 0);
+      «security_token» = fieldFrom (getD values 4 0);
+      «security_options» = fieldFrom (getD values 5 0);
+      «pin_challenge» = fieldFrom (getD values 6 0);
+      «pin_reason» = fieldFrom (getD values 7 0);
     }
 
 -- if the answer is a record, it is the one of command c with these values
-abbrev pub Located : Answer → ℕ → List ℕ → List ℕ → Type 0
-Located a c places lengths = (m : Message) → a ≡ answer.Accepted m → m ≡ messageFrom c places lengths
+abbrev pub Located : Answer → ℕ → List ℕ → Type 0
+Located a c values = (m : Message) → a ≡ answer.Accepted m → m ≡ messageFrom c values

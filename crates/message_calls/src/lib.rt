@@ -26,17 +26,13 @@ pub fn read(bytes: &[u8], record: &mut [u8]) -> Answer
     if record.len() < message_record::LENGTH {
         return refuse(Status::NoRoom, 0);
     }
-    let mut places = [0u32; 8];
-    let mut lengths = [0u32; 8];
-    let verdict = locating::locate(bytes, &mut places, &mut lengths);
+    let mut values = [0u64; 8];
+    let verdict = locating::locate(bytes, &mut values);
     let status = verdict.status;
     if status::number(status) != 0 {
         return refuse(status, verdict.place);
     }
-    message_record::write(
-        record,
-        locating::message_from(u8_at(bytes, 3), &places, &lengths),
-    );
+    message_record::write(record, locating::message_from(u8_at(bytes, 3), &values));
     accept()
 }
 

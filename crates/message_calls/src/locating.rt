@@ -1,6 +1,6 @@
-// Where the values of a message stand, found in one walk over its TLVs: for each type the place and the length of its value, 0 where there is
-// none. The check is the reader's, TLV by TLV. This walk is for the exported call alone: one that two calls share is put into neither by the
-// compiler, and its answer then goes through memory.
+// Where the values of a message stand, found in one walk over its TLVs: for each type the place and the length of its value as one number, 0
+// where there is none. One number is one store, here and in the record. The check is the reader's, TLV by TLV. This walk is for the exported call
+// alone: one that two calls share is put into neither by the compiler, and its answer then goes through memory.
 ghost use mathlib.Core.Path.{_≡_};
 ghost use Prim.Native.Nat.{_≤_};
 ghost use lib.ListN.{length};
@@ -17,12 +17,15 @@ use message::record::Message;
 use message::rules;
 use wire::status::Status;
 
+// What the length is multiplied by beside the place: both have four bytes in the record.
+const WIDE: u64 = 4294967296;
+
 // The TLVs after the header, from left to right, and last whether one is missing. The row of the command is changed on the way: SEEN for
 // each type that was there.
-fn locate_tlvs(bytes: &[u8], command: u8, places: &mut [u32; 8], lengths: &mut [u32; 8]) -> Verdict
-    requires { ⌜ (length (now bytes) ≤ 65535) × (now places ≡ none) × (now lengths ≡ none) ⌝ }
+fn locate_tlvs(bytes: &[u8], command: u8, values: &mut [u64; 8]) -> Verdict
+    requires { ⌜ (length (now bytes) ≤ 65535) × (now values ≡ none) ⌝ }
     ensures verdict { λ r. ⌜ r ≡ verdictOf (tlvsFrom (length (now (bytes .entry))) (now (bytes .entry)) 4 (emptyOf command)) ⌝ }
-    ensures values { λ _. ⌜ Located (tlvsFrom (length (now (bytes .entry))) (now (bytes .entry)) 4 (emptyOf command)) command (now (places .exit)) (now (lengths .exit)) ⌝ }
+    ensures values { λ _. ⌜ Located (tlvsFrom (length (now (bytes .entry))) (now (bytes .entry)) 4 (emptyOf command)) command (now (values .exit)) ⌝ }
 {
     let mut at = 4;
     let mut row = rules::roles_of(command);
@@ -30,8 +33,7 @@ fn locate_tlvs(bytes: &[u8], command: u8, places: &mut [u32; 8], lengths: &mut [
         match reader::tlv_at(bytes, at, &row) {
             Tlv::Right { kind, len } => {
                 row[kind as usize] = rules::SEEN;
-                places[kind as usize] = (at + 3) as u32;
-                lengths[kind as usize] = len as u32;
+                values[kind as usize] = (at + 3) as u64 + WIDE * (len as u64);
                 at = at + 3 + len;
             }
             Tlv::Refused { status } => {
@@ -52,40 +54,40 @@ fn locate_tlvs(bytes: &[u8], command: u8, places: &mut [u32; 8], lengths: &mut [
     }
 }
 
-// The verdict on a message; for an accepted one the places and lengths are those of its record.
-pub(crate) fn locate(bytes: &[u8], places: &mut [u32; 8], lengths: &mut [u32; 8]) -> Verdict
-    requires { ⌜ (now places ≡ none) × (now lengths ≡ none) ⌝ }
+// The verdict on a message; for an accepted one the values are those of its record.
+pub(crate) fn locate(bytes: &[u8], values: &mut [u64; 8]) -> Verdict
+    requires { ⌜ now values ≡ none ⌝ }
     ensures verdict { λ r. ⌜ r ≡ verdictOf (readMessage (now (bytes .entry))) ⌝ }
-    ensures values { λ _. ⌜ Located (readMessage (now (bytes .entry))) (commandIn (now (bytes .entry))) (now (places .exit)) (now (lengths .exit)) ⌝ }
+    ensures values { λ _. ⌜ Located (readMessage (now (bytes .entry))) (commandIn (now (bytes .entry))) (now (values .exit)) ⌝ }
 {
     match reader::read_header(bytes) {
-        Header::Command(command) => locate_tlvs(bytes, command, places, lengths),
+        Header::Command(command) => locate_tlvs(bytes, command, values),
         Header::Refused { status } => Verdict { status, place: 0 },
     }
 }
 
-// The field of a value that begins at `at`; no value begins at 0.
-fn field_from(at: u32, len: u32) -> Field
-    ensures { λ r. ⌜ r ≡ fieldFrom at len ⌝ }
+// The field of a value; no value begins at 0.
+fn field_from(value: u64) -> Field
+    ensures { λ r. ⌜ r ≡ fieldFrom value ⌝ }
 {
     Field {
-        present: at != 0,
-        at,
-        len,
+        present: value != 0,
+        at: (value % WIDE) as u32,
+        len: (value / WIDE) as u32,
     }
 }
 
-// The record of a command with the values that stand there.
-pub(crate) fn message_from(command: u8, places: &[u32; 8], lengths: &[u32; 8]) -> Message
-    ensures { λ r. ⌜ r ≡ messageFrom command (now (places .entry)) (now (lengths .entry)) ⌝ }
+// The record of a command with these values.
+pub(crate) fn message_from(command: u8, values: &[u64; 8]) -> Message
+    ensures { λ r. ⌜ r ≡ messageFrom command (now (values .entry)) ⌝ }
 {
-    let friendly_name = field_from(places[0], lengths[0]);
-    let rtsp_port = field_from(places[2], lengths[2]);
-    let source_id = field_from(places[3], lengths[3]);
-    let security_token = field_from(places[4], lengths[4]);
-    let security_options = field_from(places[5], lengths[5]);
-    let pin_challenge = field_from(places[6], lengths[6]);
-    let pin_reason = field_from(places[7], lengths[7]);
+    let friendly_name = field_from(values[0]);
+    let rtsp_port = field_from(values[2]);
+    let source_id = field_from(values[3]);
+    let security_token = field_from(values[4]);
+    let security_options = field_from(values[5]);
+    let pin_challenge = field_from(values[6]);
+    let pin_reason = field_from(values[7]);
     Message {
         command,
         friendly_name,

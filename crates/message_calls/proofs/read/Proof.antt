@@ -35,7 +35,7 @@ returns-2 : tie.Need-returns-2
 returns-2 c =
     let n = c .before .before in
     let k = n .before in
-    let i = k .before .before .before in
+    let i = k .before .before in
     let a = i .before .before .before .args in
     let e = k .locate .ensures .0 in
     let r = ap (λ (v : Verdict). answer.Refused (v .status) (v .place)) e
@@ -61,16 +61,16 @@ returns-3 : tie.Need-returns-3
 returns-3 c =
     let w = c .before .before .before in
     let f = w .before in
-    let u = f .before .before .before in
+    let u = f .before .before in
     let j = u .before .before in
     let n = j .before in
     let k = n .before in
-    let i = k .before .before .before in
+    let i = k .before .before in
     let a = i .before .before .before .args in
     let s = now (a .bytes) in
     let z = ap (λ (v : Verdict). numberOf (v .status)) (sym (k .locate .ensures .0)) ∙ sym (n .number .ensures) ∙ j .if2 .left in
     let m = zero-accepted s z in
-    rw (c .accept .ensures, w .write .ensures, f .message-from .ensures, u .u8-at .ensures, command-byte s)
+    rw (c .accept .ensures, w .write .ensures, f .message-from .ensures, u .u8-at .ensures ∙ command-byte s)
     (read-answered s (now (a .«record»)) _ (i .if1 .left) (m .1 ∙ ap answer.Accepted (k .locate .ensures .1 (m .0) (m .1))))
 
 pub read-spec : {M : Type 1} → statement M

@@ -1,5 +1,4 @@
--- The field is that of the definition. Assumes nothing.
-use borrow.Author.Tests.{eq-eqb, ne-eqb}
+-- The place and the length of a number of eight bytes have four bytes each. Assumes nothing.
 use borrow.Author.Needs.{needs}
 use Rattle.message_calls.specs.Locating.{fieldFrom}
 use Rattle.message_calls.proofs.locating.field_from.Statement.{statement}
@@ -10,4 +9,4 @@ unfolding fieldFrom
 returns c = search needs
 
 pub field-from-spec : {M : Type 1} → statement M
-field-from-spec = tie.close (tie.spec returns)
+field-from-spec = tie.close (tie.spec (λ c. search needs) (λ c. search needs) returns)

@@ -21,30 +21,30 @@ enum-known-command c = search needs
 
 locate-tlvs-requires : tie.Need-locate-tlvs-requires
 locate-tlvs-requires c κs =
-    let told = c .before .before .before in
+    let told = c .before .before in
     let k = told .before .before in
     let s = now (k .before .before .args .bytes) in
     let h = header-command s _ (sym (k .read-header .ensures) ∙ told .command .given .1) in
     let p = k .before .before .pre in
-    (headed-short s (λ (i : ℕ). omega (arith, k .before .shared-slice-known .given i)) (h .0), p .0, p .1)
+    (headed-short s (λ (i : ℕ). omega (arith, k .before .shared-slice-known .given i)) (h .0), p)
 
 enum-known-status : tie.Need-enum-known-status
 enum-known-status c = search needs
 
 returns : tie.Need-returns
 returns c =
-    let told = c .before .before .before .before in
+    let told = c .before .before .before in
     let k = told .before .before in
     let s = now (k .before .before .args .bytes) in
     let h = header-command s _ (sym (k .read-header .ensures) ∙ told .command .given .1) in
-    located-same _ _ (ap (λ (i : ℕ). tlvsFrom (length s) s 4 (emptyOf i)) (h .1) ∙ sym (headed-read s (h .0))) (h .1) (c .locate-tlvs .ensures)
+    located-same _ (ap (λ (i : ℕ). tlvsFrom (length s) s 4 (emptyOf i)) (h .1) ∙ sym (headed-read s (h .0))) (h .1) (c .locate-tlvs .ensures)
 
 returns-2 : tie.Need-returns-2
 returns-2 c =
     let k = c .before .before .before in
     let s = now (k .before .before .args .bytes) in
     let r = header-refused s _ (sym (k .read-header .ensures) ∙ c .before .status .given .1) in
-    (ap verdictOf r, located-refused (readMessage s) (commandIn s) _ 0 _ _ r)
+    (ap verdictOf r, located-refused (readMessage s) (commandIn s) _ 0 _ r)
 
 pub locate-spec : {M : Type 1} → statement M
 locate-spec =

@@ -1,4 +1,4 @@
--- The places and lengths found so far are those of the record so far, and each turn finds one TLV more. Assumes nothing.
+-- The values found so far are those of the record so far, and each turn finds one TLV more. Assumes nothing.
 use Prim.Native.Nat.{_-_}
 use mathlib.Core.Path.{sym, _∙_}
 use native.Mathlib.Omega.{arith}
@@ -11,10 +11,10 @@ use Rattle.message_calls.proofs.locating.locate_tlvs.Statement.{stateme
 use Rattle.message_calls.proofs.locating.locate_tlvs.Tie as tie
 
 abbrev Inv-loop : tie.InvT-loop
-Inv-loop bytes command places₀ lengths₀ at₀ row₀ places lengths at row = Found bytes command at row places lengths
+Inv-loop bytes command values₀ at₀ row₀ values at row = Found bytes command at row values
 
 abbrev μ-loop : tie.MeasureT-loop
-μ-loop bytes command places₀ lengths₀ at₀ row₀ places lengths at row = length bytes - at
+μ-loop bytes command values₀ at₀ row₀ values at row = length bytes - at
 
 -- the TLV that was found lies within the bytes, and its type is below 8
 fits
@@ -31,7 +31,7 @@ roles-of-requires c κs = search needs
 loop-holds : tie.Need-loop-holds Inv-loop μ-loop
 loop-holds c =
     let p = c .before .before .pre in
-    found-start _ _ _ _ _ (p .0) (c .roles-of .ensures) (p .1) (p .2)
+    found-start _ _ _ _ (p .0) (c .roles-of .ensures) (p .1)
 
 slice-aggregate-tlv-at : tie.Need-slice-aggregate-tlv-at Inv-loop μ-loop
 slice-aggregate-tlv-at c = search needs
@@ -48,32 +48,23 @@ cast-row c = omega (arith, fits c .small)
 array-write-row : tie.Need-array-write-row Inv-loop μ-loop
 array-write-row c = omega (arith, fits c .small, c .before .before .before .before .before .before .loop .inv .checked .entries .eight)
 
-add-places : tie.Need-add-places Inv-loop μ-loop
-add-places c = omega (arith, fits c .whole)
+add-values : tie.Need-add-values Inv-loop μ-loop
+add-values c = omega (arith, fits c .whole)
 
-cast-places : tie.Need-cast-places Inv-loop μ-loop
-cast-places c = omega (arith, fits c .whole, c .before .before .before .before .before .before .loop .inv .short)
+mul-values : tie.Need-mul-values Inv-loop μ-loop
+mul-values c = omega (arith, fits c .whole, c .before .before .before .before .before .before .loop .inv .short)
 
-cast-places-2 : tie.Need-cast-places-2 Inv-loop μ-loop
-cast-places-2 c = omega (arith, fits c .small)
+add-values-2 : tie.Need-add-values-2 Inv-loop μ-loop
+add-values-2 c = omega (arith, fits c .whole, c .before .before .before .before .before .before .loop .inv .short)
 
-mul-places : tie.Need-mul-places Inv-loop μ-loop
-mul-places c = omega (arith, fits c .small)
+cast-values : tie.Need-cast-values Inv-loop μ-loop
+cast-values c = omega (arith, fits c .small)
 
-element-write-places : tie.Need-element-write-places Inv-loop μ-loop
-element-write-places c = omega (arith, fits c .small, c .before .before .before .before .before .before .loop .inv .values .places-eight)
+mul-values-2 : tie.Need-mul-values-2 Inv-loop μ-loop
+mul-values-2 c = omega (arith, fits c .small)
 
-cast-lengths : tie.Need-cast-lengths Inv-loop μ-loop
-cast-lengths c = omega (arith, fits c .whole, c .before .before .before .before .before .before .loop .inv .short)
-
-cast-lengths-2 : tie.Need-cast-lengths-2 Inv-loop μ-loop
-cast-lengths-2 c = omega (arith, fits c .small)
-
-mul-lengths : tie.Need-mul-lengths Inv-loop μ-loop
-mul-lengths c = omega (arith, fits c .small)
-
-element-write-lengths : tie.Need-element-write-lengths Inv-loop μ-loop
-element-write-lengths c = omega (arith, fits c .small, c .before .before .before .before .before .before .loop .inv .values .lengths-eight)
+element-write-values : tie.Need-element-write-values Inv-loop μ-loop
+element-write-values c = omega (arith, fits c .small, c .before .before .before .before .before .before .loop .inv .found .eight)
 
 add-at : tie.Need-add-at Inv-loop μ-loop
 add-at c = omega (arith, fits c .whole)
@@ -125,15 +116,12 @@ locate-tlvs-spec =
     enum-known-kind
     cast-row
     array-write-row
-    add-places
-    cast-places
-    cast-places-2
-    mul-places
-    element-write-places
-    cast-lengths
-    cast-lengths-2
-    mul-lengths
-    element-write-lengths
+    add-values
+    mul-values
+    add-values-2
+    cast-values
+    mul-values-2
+    element-write-values
     add-at
     add-at-2
     loop-less
