@@ -11,6 +11,8 @@ mod page;
 mod table;
 mod timing;
 
+use std::hint::black_box;
+
 use table::Table;
 
 /// The rounds of a run: a moment in which something else has the machine is over by the next.
@@ -18,14 +20,32 @@ const ROUNDS: usize = 8;
 
 fn main() {
     let mut table = Table::default();
-    for _ in 0..ROUNDS {
-        table.begin();
-        messages::messages(&mut table);
-        messages::steps(&mut table);
-        messages::limits(&mut table);
-        cursor::positions(&mut table);
-        cursor::storing(&mut table);
-        cursor::completeness(&mut table);
+    for depth in 0..ROUNDS {
+        deeper(depth, &mut || round(&mut table));
     }
     table.print();
+}
+
+/// Measures each row once.
+fn round(table: &mut Table) {
+    table.begin();
+    messages::messages(table);
+    messages::steps(table);
+    messages::limits(table);
+    cursor::positions(table);
+    cursor::storing(table);
+    cursor::completeness(table);
+}
+
+/// Runs a round below so many frames of some 1,000 bytes, so that each round has its stack at other
+/// places of a page: at an unlucky place, where a variable of the caller lies across two pages, a
+/// call of 14 nanoseconds takes 27.
+#[inline(never)]
+fn deeper(depth: usize, round: &mut dyn FnMut()) {
+    let frame = black_box([0; 1000]);
+    match depth.checked_sub(1) {
+        Some(depth) => deeper(depth, round),
+        None => round(),
+    }
+    black_box(&frame);
 }
