@@ -1,11 +1,12 @@
 -- The first k bytes are digits, and `number` is the number in them. Assumes nothing.
 use Prim.Native.Nat.{_-_, _^_, _≤_, _<_}
 use mathlib.Core.Path.{_≡_, refl, sym}
-use mathlib.Core.Bool.{true}
+use mathlib.Core.Bool.{true, false}
 use native.Mathlib.Omega.{arith}
 use borrow.Author.Needs.{needs}
 use borrow.Author.Tests.{le-leb, lt-leb, lt-ltb, le-ltb}
 use denote.Ref.{now}
+use lib.Dec.{leb}
 use lib.ListN.{length}
 use Rattle.wire.specs.Below.{allBelow}
 use Rattle.limits.specs.Hex.{isDigit, number, readDigits}
@@ -23,7 +24,10 @@ abbrev μ-loop : tie.MeasureT-loop
 
 returns : tie.Need-returns Inv-loop μ-loop
 unfolding readDigits
-returns c = simp (lt-leb _ _ (c .if1 .taken))
+returns c =
+    let s = now (c .before .before .args .bytes) in
+    let long : leb (length s) 4 ≡ false = lt-leb _ _ (c .if1 .taken) in
+    simp long
 
 loop-holds : tie.Need-loop-holds Inv-loop μ-loop
 unfolding allBelow number

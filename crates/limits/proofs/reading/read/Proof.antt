@@ -1,14 +1,21 @@
 -- The tests are those of the definition, in its order; the word of the xor support is known where the numbers are read. Assumes nothing.
+use mathlib.Core.Path.{_≡_, sym, _∙_}
+use mathlib.Core.Bool.{true}
 use mathlib.Core.Logic.{⊎-elim}
 use borrow.Author.Needs.{needs}
 use borrow.Author.Tests.{eq-eqb, ne-eqb}
+use denote.Ref.{now}
+use Rattle.limits.specs.Grammar.{noneWord}
+use Rattle.limits.specs.Word.{spells}
 use Rattle.limits.specs.Reading.{readValue}
 use Rattle.limits.proofs.reading.read.Statement.{statement}
 use Rattle.limits.proofs.reading.read.Tie as tie
 
 returns : tie.Need-returns
 unfolding readValue
-returns c = simp (← c .before .spelled .ensures, c .if1 .taken)
+returns c =
+    let none : spells noneWord (now (c .before .before .before .before .args .bytes)) ≡ true = sym (c .before .spelled .ensures) ∙ c .if1 .taken in
+    simp none
 
 returns-2 : tie.Need-returns-2
 unfolding readValue
