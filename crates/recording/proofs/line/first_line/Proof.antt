@@ -9,11 +9,11 @@ use Rattle.recording.proofs.line.first_line.Tie as tie
 
 returns : tie.Need-returns
 unfolding lineOf
-returns c = simp (eq-eqb _ _ (c .if1 .taken))
+returns c = simp (eq-eqb _ 0 (c .if1 .taken))
 
 returns-2 : tie.Need-returns-2
 unfolding lineOf
-returns-2 c = simp (ne-eqb _ _ (c .before .if1 .left), lt-ltb _ _ (c .if2 .taken))
+returns-2 c = simp (ne-eqb _ 0 (c .before .if1 .left), lt-ltb _ 4 (c .if2 .taken))
 
 u16-at-requires : tie.Need-u16-at-requires
 u16-at-requires c κs = search needs
@@ -25,17 +25,17 @@ returns-3 : tie.Need-returns-3
 unfolding lineOf
 returns-3 c =
     let b = c .before .before in
-    simp (ne-eqb _ _ (b .before .if1 .left), le-ltb _ _ (b .if2 .left), ← c .before .u16-at .ensures, lt-ltb _ _ (c .if3 .taken))
+    simp (ne-eqb _ 0 (b .before .if1 .left), le-ltb _ 4 (b .if2 .left), ← c .before .u16-at .ensures, lt-ltb _ 4 (c .if3 .taken))
 
 returns-4 : tie.Need-returns-4
 unfolding lineOf
 returns-4 c =
     let b = c .before .before .before in
     simp (
-      ne-eqb _ _ (b .before .if1 .left),
-      le-ltb _ _ (b .if2 .left),
+      ne-eqb _ 0 (b .before .if1 .left),
+      le-ltb _ 4 (b .if2 .left),
       ← c .before .before .u16-at .ensures,
-      le-ltb _ _ (c .before .if3 .left),
+      le-ltb _ 4 (c .before .if3 .left),
       lt-ltb _ _ (c .if4 .taken),
     )
 
@@ -61,10 +61,10 @@ returns-5 c =
     let t = r .before .before in
     let b = t .before .before .before in
     simp (
-      ne-eqb _ _ (b .before .if1 .left),
-      le-ltb _ _ (b .if2 .left),
+      ne-eqb _ 0 (b .before .if1 .left),
+      le-ltb _ 4 (b .if2 .left),
       ← t .before .before .u16-at .ensures,
-      le-ltb _ _ (t .before .if3 .left),
+      le-ltb _ 4 (t .before .if3 .left),
       le-ltb _ _ (t .if4 .left),
       ← r .read .ensures,
       c .status-of .ensures,
@@ -78,10 +78,10 @@ returns-6 c =
     let t = r .before .before in
     let b = t .before .before .before in
     simp (
-      ne-eqb _ _ (b .before .if1 .left),
-      le-ltb _ _ (b .if2 .left),
+      ne-eqb _ 0 (b .before .if1 .left),
+      le-ltb _ 4 (b .if2 .left),
       ← t .before .before .u16-at .ensures,
-      le-ltb _ _ (t .before .if3 .left),
+      le-ltb _ 4 (t .before .if3 .left),
       le-ltb _ _ (t .if4 .left),
       ← r .read .ensures,
       c .before .answer .given .1,

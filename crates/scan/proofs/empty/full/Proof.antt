@@ -1,6 +1,7 @@
 -- The least mark passed is 0 exactly if one of them is. Assumes nothing.
-use Prim.Native.Nat.{_+_, _-_, _≤_}
-use mathlib.Core.Path.{_≡_, refl}
+use Prim.Native.Nat.{ℕ, _+_, _-_, _≤_}
+use mathlib.Core.Path.{_≡_, refl, ap, _∙_}
+use mathlib.Core.Bool.{not}
 use native.Mathlib.Omega.{arith}
 use lib.ListN.{getD}
 use lib.Dec.{eqb}
@@ -47,8 +48,9 @@ loop-again c =
 returns : tie.Need-returns Inv-loop μ-loop
 returns c =
     let l = c .before .loop in
-    let e : l .k ≡ c .before .before .before .args .size = omega arith in
-    rw (l .inv .1, e)
+    let a = c .before .before .before .args in
+    let e : l .k ≡ a .size = omega arith in
+    ap not (l .inv .1 ∙ ap (λ (n : ℕ). someBelow n (λ j. emptyAt (now (a .marks)) (a .at + j))) e)
 
 pub full-spec : {M : Type 1} → statement M
 full-spec =

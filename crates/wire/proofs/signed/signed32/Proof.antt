@@ -1,8 +1,9 @@
 -- Each need is a law of two's complement at this width. Assumes nothing.
-use mathlib.Core.Path.{refl, _∙_}
+use mathlib.Core.Path.{refl, sym, _∙_, subst}
 use native.Mathlib.Omega.{arith}
 use borrow.Author.Needs.{needs}
 use mir.Syntax.{w32}
+use mir.Val.{SFits}
 use mir.ValLaws.{toZ-ofZ, toZ-fits}
 use Rattle.wire.proofs.Laws.Signed.{signed-toZ, upper-half}
 use Rattle.wire.proofs.signed.signed32.Statement.{statement}
@@ -18,7 +19,8 @@ cast-result-2 : tie.Need-cast-result-2
 cast-result-2 c = search needs
 
 add-result : tie.Need-add-result
-add-result c = rw (upper-half w32 4 refl refl (c .before .args .x) (omega arith) (omega arith)) (toZ-fits w32 _ (c .before .fits .x))
+add-result c =
+    subst (SFits w32) (sym (upper-half w32 4 refl refl (c .before .args .x) (omega arith) (omega arith))) (toZ-fits w32 _ (c .before .fits .x))
 
 returns-2 : tie.Need-returns-2
 returns-2 c =
