@@ -2,8 +2,8 @@
 ghost use mathlib.Core.Path.{_≡_};
 ghost use lib.ListN.{length};
 ghost use Rattle.session.specs.Record.{freshSession};
-ghost use Rattle.records.specs.Layout.{laid};
-ghost use Rattle.records.specs.SessionRecord.{sessionBytes};
+ghost use Rattle.little_endian.specs.Layout.{laid};
+ghost use Rattle.session_record.specs.SessionRecord.{sessionBytes};
 ghost use Rattle.answers.specs.Fresh.{freshAnswer};
 ghost use Rattle.session_calls.specs.SessionCalls.{after, sessionStep, sessionMessage};
 use answers::Step;

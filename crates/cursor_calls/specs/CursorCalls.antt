@@ -17,9 +17,9 @@ use Rattle.cursor.specs.Pointer.{positioned}
 use Rattle.cursor.specs.Storing as storing
 use Rattle.cursor.specs.Storing.{stored}
 use Rattle.cursor.specs.Completeness.{completeness}
-use Rattle.records.specs.Layout.{laid}
-use Rattle.records.specs.PointerRecord.{pointerBytes, pointerOf}
-use Rattle.records.specs.PictureRecord.{pictureBytes, pictureOf}
+use Rattle.little_endian.specs.Layout.{laid}
+use Rattle.cursor_records.specs.PointerRecord.{pointerBytes, pointerOf}
+use Rattle.cursor_records.specs.PictureRecord.{pictureBytes, pictureOf}
 use Rattle.answers.specs.declared.Answer.{Answer}
 use Rattle.answers.specs.declared.Yes.{Yes}
 use Rattle.answers.specs.Answers.{accepted, refused, short}

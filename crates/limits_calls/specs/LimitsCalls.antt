@@ -1,5 +1,5 @@
 -- What the calls of the cursor limits value answer, and what the lent bytes then hold: by the definitions of the value (crate limits) and of
--- its record as bytes (crate records). s are the bytes of a text, xs those of a record. Assumes nothing.
+-- its record as bytes (crate limits_record). s are the bytes of a text, xs those of a record. Assumes nothing.
 use Prim.Native.Nat.{ℕ}
 use mathlib.Core.List.{List}
 use mathlib.Core.Bool.{cond}
@@ -15,8 +15,8 @@ use Rattle.limits.specs.declared.value.Written.the-variants as writer
 use Rattle.limits.specs.Reading.{readValue}
 use Rattle.limits.specs.Word.{copied}
 use Rattle.limits.specs.Writing.{spelling, writeAnswer}
-use Rattle.records.specs.Layout.{laid}
-use Rattle.records.specs.LimitsRecord.{limitsBytes, limitsIn}
+use Rattle.little_endian.specs.Layout.{laid}
+use Rattle.limits_record.specs.LimitsRecord.{limitsBytes, limitsIn}
 use Rattle.answers.specs.declared.Answer.{Answer}
 use Rattle.answers.specs.declared.Written.{Written}
 use Rattle.answers.specs.Answers.{accepted, refused, short}

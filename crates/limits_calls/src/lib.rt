@@ -6,7 +6,6 @@ use answers::Written;
 use answers::accept;
 use answers::refuse;
 use limits::value;
-use records::limits_record;
 use wire::status;
 use wire::status::Status;
 

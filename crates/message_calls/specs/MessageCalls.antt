@@ -1,5 +1,5 @@
 -- What the calls of connection messages answer, and what the lent bytes then hold: by the definitions of the message (crate message) and of
--- its record as bytes (crate records). s are the lent bytes of a message, xs those of its record. Assumes nothing.
+-- its record as bytes (crate message_record). s are the lent bytes of a message, xs those of its record. Assumes nothing.
 use Prim.Native.Nat.{ℕ}
 use mathlib.Core.List.{List}
 use mathlib.Core.Bool.{false, cond}
@@ -17,8 +17,8 @@ use Rattle.message.specs.declared.accessors.SourceId.{SourceId}
 use Rattle.message.specs.Reading.{readMessage}
 use Rattle.message_writer.specs.Writing.{writeAnswer, output}
 use Rattle.message.specs.Accessors.{portOf, optionsOf, sourceOf}
-use Rattle.records.specs.Layout.{laid}
-use Rattle.records.specs.MessageRecord.{messageBytes, messageIn}
+use Rattle.little_endian.specs.Layout.{laid}
+use Rattle.message_record.specs.MessageRecord.{messageBytes, messageIn}
 use Rattle.answers.specs.declared.Answer.{Answer}
 use Rattle.answers.specs.declared.Number.{Number}
 use Rattle.answers.specs.declared.Written.{Written}

@@ -11,7 +11,6 @@ use answers::Yes;
 use answers::accept;
 use answers::refuse;
 use message::accessors;
-use records::message_record;
 use scan::bytes;
 use wire::number::u8_at;
 use wire::status;

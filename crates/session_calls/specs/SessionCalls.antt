@@ -13,8 +13,8 @@ use Rattle.session.specs.declared.step.Answer.{Answer}
 use Rattle.session.specs.declared.step.Stepped.{Stepped}
 use Rattle.session.specs.Step.{stepOf}
 use Rattle.session.specs.Message.{onMessage}
-use Rattle.records.specs.Layout.{laid}
-use Rattle.records.specs.SessionRecord.{sourceAt, stateNumber, sessionBytes, sessionOf}
+use Rattle.little_endian.specs.Layout.{laid}
+use Rattle.session_record.specs.SessionRecord.{sourceAt, stateNumber, sessionBytes, sessionOf}
 use Rattle.answers.specs.declared.Step.{Step}
 
 -- an answer, with what the lent record then holds

@@ -2,13 +2,12 @@
 ghost use mathlib.Core.Path.{_≡_};
 ghost use lib.ListN.{length};
 ghost use Rattle.session.specs.Record.{freshSession};
-ghost use Rattle.records.specs.Layout.{laid};
-ghost use Rattle.records.specs.SessionRecord.{sessionBytes};
+ghost use Rattle.little_endian.specs.Layout.{laid};
+ghost use Rattle.session_record.specs.SessionRecord.{sessionBytes};
 ghost use Rattle.answers.specs.Fresh.{freshAnswer};
 ghost use Rattle.session_calls.specs.SessionCalls.{after, shortStep, answerOf, left, sourceIn, taken, sessionStep, sessionMessage};
 use answers::Step;
 use message::accessors::SourceId;
-use records::session_record;
 use session::message_step;
 use session::record::Session;
 use session::step;

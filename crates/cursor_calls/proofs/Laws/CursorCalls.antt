@@ -19,8 +19,8 @@ use Rattle.cursor.specs.declared.storing.StoreAnswer.the-variants as store
 use Rattle.cursor.specs.Pointer.{positioned}
 use Rattle.cursor.specs.Storing as storing
 use Rattle.cursor.specs.Storing.{outcome, stored}
-use Rattle.records.specs.PointerRecord.{pointerOf}
-use Rattle.records.specs.PictureRecord.{pictureOf}
+use Rattle.cursor_records.specs.PointerRecord.{pointerOf}
+use Rattle.cursor_records.specs.PictureRecord.{pictureOf}
 use Rattle.answers.specs.Answers.{short}
 use Rattle.cursor_calls.specs.CursorCalls.{Positioned, afterPosition, positionLeft, cursorPosition, recordsWhole, Stored, afterStore, storeLeft, allLeft, cursorStore, PositionRefusalKeeps, StoreRefusalKeeps}
 

@@ -13,9 +13,9 @@ use Rattle.limits.specs.declared.value.Written.{Written}
 use Rattle.limits.specs.Reading.{readValue}
 use Rattle.limits.specs.Word.{copied}
 use Rattle.limits.specs.Writing.{spelling, writeAnswer}
-use Rattle.records.specs.LimitsRecord.{limitsBytes, limitsIn}
-use Rattle.records.proofs.Laws.Layout.{laid-short}
-use Rattle.records.proofs.Laws.LimitsRecord.{length-limits}
+use Rattle.limits_record.specs.LimitsRecord.{limitsBytes, limitsIn}
+use Rattle.little_endian.proofs.Laws.Layout.{laid-short}
+use Rattle.limits_record.proofs.Laws.LimitsRecord.{length-limits}
 use Rattle.answers.specs.Answers.{short}
 use Rattle.limits_calls.specs.LimitsCalls.{answerOf, readAnswer, recordOf, readRecord, notWritten, writtenOf, limitsWritten, limitsOutput}
 

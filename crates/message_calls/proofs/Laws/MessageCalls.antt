@@ -15,9 +15,9 @@ use Rattle.message.specs.Reading.{commandIn, readMessage}
 use Rattle.wire.specs.Number.{number}
 use Rattle.message_writer.specs.Writing.{writeAnswer, output}
 use Rattle.message.specs.Accessors.{sourceOf}
-use Rattle.records.specs.MessageRecord.{messageBytes, messageIn}
-use Rattle.records.proofs.Laws.Layout.{laid-short}
-use Rattle.records.proofs.Laws.MessageRecord.{length-message}
+use Rattle.message_record.specs.MessageRecord.{messageBytes, messageIn}
+use Rattle.little_endian.proofs.Laws.Layout.{laid-short}
+use Rattle.message_record.proofs.Laws.MessageRecord.{length-message}
 use Rattle.answers.specs.declared.Yes.{Yes}
 use Rattle.answers.specs.Answers.{short}
 use Rattle.message_calls.specs.MessageCalls.{answerOf, readAnswer, recordOf, readRecord, notWritten, writtenOf, messageWritten, messageOutput}

@@ -1,0 +1,2 @@
+pub mod PictureRecord
+pub mod PointerRecord
