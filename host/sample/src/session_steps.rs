@@ -39,11 +39,19 @@ impl SessionSteps {
         steps
     }
 
-    /// The connection is over.
+    /// The connection is over. A session that is closed already has nothing to lose: no event is
+    /// given to it.
     pub fn connection_lost(&mut self) -> Steps {
         let mut steps = Steps::default();
-        self.event(Event::CONNECTION_LOST, None, &mut steps);
+        if self.session.state() != State::Closed {
+            self.event(Event::CONNECTION_LOST, None, &mut steps);
+        }
         steps
+    }
+
+    /// Whether the session has begun and is not closed.
+    pub fn is_under_way(&self) -> bool {
+        !matches!(self.session.state(), State::Waiting | State::Closed)
     }
 
     /// What the record of the session says.
@@ -163,6 +171,19 @@ mod tests {
         assert_eq!(answer, None);
         assert_eq!(lines.len(), 1);
         assert!(lines[0].ends_with("(refusal 14); Closed, options 0, no source"), "{lines:?}");
+    }
+
+    /// The end of the connection closes an open session, and is no step of a closed one.
+    #[test]
+    fn a_closed_session_loses_no_connection() {
+        let mut steps = SessionSteps::default();
+        assert!(!steps.is_under_way());
+        steps.message(&[&[0, 28, 1, 1, 2, 0, 2, 0x1C, 0x44][..], &ID].concat());
+        assert!(steps.is_under_way());
+        assert_eq!(steps.connection_lost().lines.len(), 1);
+        assert_eq!(steps.session.state(), State::Closed);
+        assert!(!steps.is_under_way());
+        assert_eq!(steps.connection_lost(), Steps::default());
     }
 
     #[test]

@@ -160,7 +160,7 @@ fn recording(name: &str, bytes: &[u8]) -> String {
 }
 
 /// The recorded session with PIN (recordings/README.md; paper 01, "Sink session"). The connection's
-/// end comes in Closed, where every event is 14.
+/// end comes in Closed, and is no step.
 #[test]
 fn the_session_projects_and_closes_and_the_picture_completes() {
     let receiver = Receiver::start(&["--once"]);
@@ -177,7 +177,6 @@ fn the_session_projects_and_closes_and_the_picture_completes() {
         ("PIN right (", 0, None, &state("ReadyWait")),
         ("Source Ready, 28 bytes, RTSP port 7236", 0, None, &state("Projecting")),
         ("Stop Projection, 56 bytes", 0, None, &closed),
-        ("connection lost", 14, None, &closed),
     ];
     check_session(&receiver, &expected);
     // Size 4 + 19 + 35 + 4, and the reason "PIN accepted".
@@ -232,7 +231,6 @@ fn a_damaged_message_changes_nothing() {
         ("Source Ready, 61 bytes, RTSP port 7236", 0, None, &*projecting),
         ("Stop Projection, 56 bytes", 6, Some(4), &projecting),
         ("Source Ready, 61 bytes, RTSP port 7236", 14, None, &closed),
-        ("connection lost", 14, None, &closed),
     ];
     check_session(&receiver, &expected);
     check_cursor(&sender, &receiver);
@@ -295,7 +293,6 @@ fn faulty_messages_in_each_state_change_nothing() {
     }
     bytes.extend_from_slice(&session[218..]);
     steps.push(("Stop Projection", 0, None, state("Closed")));
-    steps.push(("connection lost", 14, None, state("Closed")));
 
     let receiver = Receiver::start(&["--once"]);
     receiver.play(&["--recording", &recording("faulty-messages.bin", &bytes)]);
@@ -317,7 +314,6 @@ fn a_connection_that_ends_within_a_message() {
         ("Source Ready, 33 bytes, RTSP port 7236", 0, None, projecting),
         ("Stop Projection, 28 bytes", 0, None, closed),
         ("less than a header, 1 bytes", 1, None, closed),
-        ("connection lost", 14, None, closed),
     ];
     check_session(&receiver.ended(), &expected);
 }
@@ -344,6 +340,25 @@ fn a_size_below_4_ends_the_connection() {
     check_session(&lines, &expected);
     assert!(lines.iter().any(|line| line.starts_with("session: Size 3 is below 4")));
     assert!(lines.iter().any(|line| line == "session: the receiver closes the connection"));
+}
+
+/// A sender that says nothing is let go of, before its session and after it, and the next one has
+/// its turn.
+#[test]
+fn a_silent_sender_keeps_nobody_out() {
+    let receiver = Receiver::start(&["--patience", "1"]);
+    let silent = TcpStream::connect(("127.0.0.1", receiver.tcp)).unwrap();
+    let mut stopped = TcpStream::connect(("127.0.0.1", receiver.tcp)).unwrap();
+    stopped.write_all(&fs::read(root().join("recordings/two-messages.bin")).unwrap()).unwrap();
+    receiver.play(&[]);
+    let lines = receiver.stopped();
+    drop((silent, stopped));
+    let let_go = lines.iter().filter(|line| *line == "session: nothing came for 1 s").count();
+    assert_eq!(let_go, 2);
+    let steps = Step::all("session: ", &lines);
+    let lost = "Closed, options 0, no source";
+    assert_eq!((steps[0].what, steps[0].number, steps[0].state), ("connection lost", 0, lost));
+    assert!(steps.last().unwrap().state.starts_with("Closed, options 3, "));
 }
 
 /// Each connection has a session and a cursor stream of its own: the same again is taken again.

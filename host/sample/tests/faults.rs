@@ -27,6 +27,7 @@ fn faulty_arguments() {
     faulty(RECEIVER, &["--tcp"], "receiver: --tcp needs a value");
     faulty(RECEIVER, &["--tcp", "65536"], "receiver: --tcp takes a number from 0 to 65535");
     faulty(RECEIVER, &["--udp", "-1"], "receiver: --udp takes a number from 0 to 65535");
+    faulty(RECEIVER, &["--patience", "0"], "receiver: --patience takes a number from 1 to 3600");
     faulty(RECEIVER, &["--once", "--once"], "receiver: --once is given twice");
     faulty(SENDER, &[], "sender: --tcp PORT is needed");
     faulty(SENDER, &["--tcp", "1"], "sender: --udp PORT is needed");

@@ -20,13 +20,16 @@ use sample::output::line;
 use sample::session_steps::{SessionSteps, Steps};
 
 const HELP: &str = "\
-usage: receiver [--tcp PORT] [--udp PORT] [--once] [--acknowledge]
+usage: receiver [--tcp PORT] [--udp PORT] [--patience SECONDS] [--once] [--acknowledge]
 
 A sample receiver on 127.0.0.1. It takes connection messages on a TCP port, one connection after
 another, and cursor packets on a UDP port, and prints each step in a line.
 
   --tcp PORT      the port for connection messages; 7250 if not given, 0 for any free port
   --udp PORT      the port for cursor packets; 50001 if not given, 0 for any free port
+  --patience SECONDS
+                  how long a sender may be silent before its session begins and after its session
+                  is closed, so that it doesn't keep others out; 10 if not given
   --once          ends after one connection
   --acknowledge   answers each cursor packet to its sender, for the sample sender with the same
                   option; this is no part of the protocol
@@ -55,7 +58,8 @@ fn main() -> ExitCode {
 
 fn run() -> Result<(), String> {
     let switches = ["--once", "--acknowledge", "--help"];
-    let arguments = Arguments::take(env::args_os().skip(1), &switches, &["--tcp", "--udp"])
+    let values = ["--tcp", "--udp", "--patience"];
+    let arguments = Arguments::take(env::args_os().skip(1), &switches, &values)
         .map_err(|fault| format!("{fault}; see receiver --help"))?;
     if arguments.has("--help") {
         line(HELP.trim_end());
@@ -63,6 +67,7 @@ fn run() -> Result<(), String> {
     }
     let tcp = arguments.number("--tcp", 0..=u16::MAX)?.unwrap_or(7250);
     let udp = arguments.number("--udp", 0..=u16::MAX)?.unwrap_or(50001);
+    let patience = Duration::from_secs(arguments.number("--patience", 1..=3600)?.unwrap_or(10));
     let listener = TcpListener::bind((Ipv4Addr::LOCALHOST, tcp))
         .map_err(|fault| format!("cannot listen on TCP port {tcp}: {fault}"))?;
     let socket = UdpSocket::bind((Ipv4Addr::LOCALHOST, udp))
@@ -78,7 +83,7 @@ fn run() -> Result<(), String> {
     let (drained, on_drained) = mpsc::channel();
     let acknowledges = arguments.has("--acknowledge");
     let cursor = thread::spawn(move || take_packets(&socket, acknowledges, &on_end, &drained));
-    take_connections(&listener, arguments.has("--once"), &ended, &on_drained);
+    take_connections(&listener, patience, arguments.has("--once"), &ended, &on_drained);
     // The cursor stream ends when nobody can tell it of a connection any more.
     drop(ended);
     cursor.join().map_err(|_| "the cursor stream's thread failed".to_string())
@@ -87,6 +92,7 @@ fn run() -> Result<(), String> {
 /// Takes one connection after another.
 fn take_connections(
     listener: &TcpListener,
+    patience: Duration,
     once: bool,
     ended: &Sender<()>,
     drained: &Receiver<()>,
@@ -94,7 +100,7 @@ fn take_connections(
     loop {
         match listener.accept() {
             Ok((mut stream, _)) => {
-                take_messages(&mut stream);
+                take_messages(&mut stream, patience);
                 // The connection is closed when its cursor stream is over too.
                 let cursor_stream_is_gone = ended.send(()).is_err() || drained.recv().is_err();
                 if once || cursor_stream_is_gone {
@@ -106,14 +112,16 @@ fn take_connections(
     }
 }
 
-/// Takes the messages of a connection until it ends.
-fn take_messages(stream: &mut TcpStream) {
+/// Takes the messages of a connection until it ends, or until its sender has been silent for too
+/// long. While a session is under way, silence is right: a source that projects says nothing.
+fn take_messages(stream: &mut TcpStream, patience: Duration) {
     let mut session = SessionSteps::default();
     line(format_args!("session: a sender connected; {}", session.state()));
     let mut cutter = Cutter::default();
     let mut arrived = [0; 4096];
     loop {
-        match stream.read(&mut arrived) {
+        let longest = (!session.is_under_way()).then_some(patience);
+        match stream.set_read_timeout(longest).and_then(|()| stream.read(&mut arrived)) {
             Ok(0) => {
                 if !cutter.rest().is_empty() {
                     line("session: the connection ends within a message");
@@ -124,6 +132,12 @@ fn take_messages(stream: &mut TcpStream) {
             }
             Ok(length) => cutter.put(&arrived[..length]),
             Err(fault) if fault.kind() == io::ErrorKind::Interrupted => {}
+            Err(fault) if is_nothing_yet(&fault) => {
+                let seconds = patience.as_secs();
+                line(format_args!("session: nothing came for {seconds} s"));
+                line("session: the receiver closes the connection");
+                break;
+            }
             Err(fault) => {
                 line(format_args!("session: the connection broke: {fault}"));
                 break;
