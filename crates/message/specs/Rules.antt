@@ -16,6 +16,10 @@ needed = 1
 abbrev pub optional : ℕ
 optional = 2
 
+-- In a row of the table of roles, for a type that was there.
+abbrev pub seen : ℕ
+seen = 3
+
 -- The roles of the types in no command.
 abbrev pub noRoles : List ℕ
 noRoles = foreign ∷ foreign ∷ foreign ∷ foreign ∷ foreign ∷ foreign ∷ foreign ∷ foreign ∷ []

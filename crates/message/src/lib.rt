@@ -1,5 +1,4 @@
-// Connection messages (MS-MICE 3.0, sections 2.2 to 2.2.7): read, and asked for their values.
+// Connection messages (MS-MICE 3.0, sections 2.2 to 2.2.7): the rules of their TLVs, their record, and what a host asks of it.
 pub mod accessors;
-pub mod reader;
 pub mod record;
 pub mod rules;

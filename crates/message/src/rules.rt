@@ -55,7 +55,7 @@ pub fn roles_of(command: u8) -> [u8; 8]
 }
 
 // What stands for a type in a row of the table; a type that the table doesn't have is foreign.
-pub(crate) fn entry(row: &[u8], kind: u8) -> u8
+pub fn entry(row: &[u8], kind: u8) -> u8
     ensures { λ r. ⌜ r ≡ entryOf (now (row .entry)) kind ⌝ }
 {
     let column = kind as usize;

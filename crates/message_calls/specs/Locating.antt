@@ -7,8 +7,8 @@ use lib.Dec.{eqb}
 use lib.ListN.{getD, replicate}
 use Rattle.message.specs.declared.record.Field.{Field}
 use Rattle.message.specs.declared.record.Message.{Message}
-use Rattle.message.specs.declared.reader.Answer.{Answer}
-use Rattle.message.specs.declared.reader.Answer.the-variants as answer
+use Rattle.message_reader.specs.declared.Answer.{Answer}
+use Rattle.message_reader.specs.declared.Answer.the-variants as answer
 
 -- no value of any type
 abbrev pub none : List ℕ

@@ -9,12 +9,12 @@ use Rattle.wire.specs.declared.status.Status.{Status}
 use Rattle.wire.specs.declared.status.Status.the-variants as status
 use Rattle.wire.specs.Status.{numberOf}
 use Rattle.scan.specs.Bytes.{copied}
-use Rattle.message.specs.declared.reader.Answer.{Answer as ReaderAnswer}
-use Rattle.message.specs.declared.reader.Answer.the-variants as reader
+use Rattle.message_reader.specs.declared.Answer.{Answer as ReaderAnswer}
+use Rattle.message_reader.specs.declared.Answer.the-variants as reader
 use Rattle.message_writer.specs.declared.Written.{Written as WriterAnswer}
 use Rattle.message_writer.specs.declared.Written.the-variants as writer
 use Rattle.message.specs.declared.accessors.SourceId.{SourceId}
-use Rattle.message.specs.Reading.{readMessage}
+use Rattle.message_reader.specs.Reading.{readMessage}
 use Rattle.message_writer.specs.Writing.{writeAnswer, output}
 use Rattle.message.specs.Accessors.{portOf, optionsOf, sourceOf}
 use Rattle.little_endian.specs.Layout.{laid}

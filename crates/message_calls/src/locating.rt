@@ -5,16 +5,15 @@ ghost use mathlib.Core.Path.{_≡_};
 ghost use Prim.Native.Nat.{_≤_};
 ghost use lib.ListN.{length};
 ghost use Rattle.message.specs.Record.{emptyOf};
-ghost use Rattle.message.specs.Reading.{commandIn, tlvsFrom, readMessage};
-ghost use Rattle.message.specs.Checking.{verdictOf};
+ghost use Rattle.message_reader.specs.Reading.{commandIn, tlvsFrom, readMessage};
+ghost use Rattle.message_reader.specs.Checking.{verdictOf};
 ghost use Rattle.message_calls.specs.Locating.{none, Located, fieldFrom, messageFrom};
-use message::reader;
-use message::reader::Header;
-use message::reader::Tlv;
-use message::reader::Verdict;
 use message::record::Field;
 use message::record::Message;
 use message::rules;
+use message_reader::Header;
+use message_reader::Tlv;
+use message_reader::Verdict;
 use wire::status::Status;
 
 // What the length is multiplied by beside the place: both have four bytes in the record.
@@ -30,7 +29,7 @@ fn locate_tlvs(bytes: &[u8], command: u8, values: &mut [u64; 8]) -> Verdict
     let mut at = 4;
     let mut row = rules::roles_of(command);
     while at < bytes.len() {
-        match reader::tlv_at(bytes, at, &row) {
+        match message_reader::tlv_at(bytes, at, &row) {
             Tlv::Right { kind, len } => {
                 row[kind as usize] = rules::SEEN;
                 values[kind as usize] = (at + 3) as u64 + WIDE * (len as u64);
@@ -41,7 +40,7 @@ fn locate_tlvs(bytes: &[u8], command: u8, values: &mut [u64; 8]) -> Verdict
             }
         }
     }
-    if reader::none_needed(&row) {
+    if message_reader::none_needed(&row) {
         Verdict {
             status: Status::Accepted,
             place: 0,
@@ -60,7 +59,7 @@ pub(crate) fn locate(bytes: &[u8], values: &mut [u64; 8]) -> Verdict
     ensures verdict { λ r. ⌜ r ≡ verdictOf (readMessage (now (bytes .entry))) ⌝ }
     ensures values { λ _. ⌜ Located (readMessage (now (bytes .entry))) (commandIn (now (bytes .entry))) (now (values .exit)) ⌝ }
 {
-    match reader::read_header(bytes) {
+    match message_reader::read_header(bytes) {
         Header::Command(command) => locate_tlvs(bytes, command, values),
         Header::Refused { status } => Verdict { status, place: 0 },
     }

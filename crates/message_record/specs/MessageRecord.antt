@@ -5,10 +5,10 @@ use mathlib.Core.List.{List, _++_}
 use lib.ListN.{length}
 use Rattle.message.specs.declared.record.Field.{Field}
 use Rattle.message.specs.declared.record.Message.{Message}
-use Rattle.message.specs.declared.reader.Answer.the-variants as answer
+use Rattle.message_reader.specs.declared.Answer.the-variants as answer
 use Rattle.message.specs.Record.{fieldOf}
-use Rattle.message.specs.Reading.{readMessage}
-use Rattle.message.specs.Theorems.{Bytes}
+use Rattle.message_reader.specs.Reading.{readMessage}
+use Rattle.message_reader.specs.Theorems.{Bytes}
 use Rattle.little_endian.specs.Layout.{flag, isSet, laid}
 use Rattle.little_endian.specs.Little.{numberAt, bytes}
 

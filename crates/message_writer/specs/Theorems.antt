@@ -9,11 +9,11 @@ use lib.ListN.{length, take, drop}
 use Rattle.wire.specs.declared.status.Status.{Status}
 use Rattle.wire.specs.declared.status.Status.the-variants as status
 use Rattle.message.specs.declared.record.Message.{Message}
-use Rattle.message.specs.declared.reader.Answer.the-variants as answer
+use Rattle.message_reader.specs.declared.Answer.the-variants as answer
 use Rattle.message.specs.Rules.{roleOf, foreign, needed, lengthOk, knownCommand}
 use Rattle.message.specs.Record.{fieldOf, valueOf, sizeTo}
-use Rattle.message.specs.Reading.{readMessage}
-use Rattle.message.specs.Theorems.{Bytes}
+use Rattle.message_reader.specs.Reading.{readMessage}
+use Rattle.message_reader.specs.Theorems.{Bytes}
 use Rattle.message_writer.specs.declared.Written.the-variants as written
 use Rattle.message_writer.specs.Writing.{writeAnswer, output}
 

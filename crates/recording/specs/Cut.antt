@@ -5,7 +5,7 @@ use mathlib.Core.List.{List}
 use mathlib.Core.Bool.{cond}
 use lib.ListN.{length}
 use lib.Dec.{ltb}
-use Rattle.message.specs.Reading.{sizeIn}
+use Rattle.message_reader.specs.Reading.{sizeIn}
 
 -- s is what was read from one place on: four bytes for the header, which are enough to refuse a Size below 4; then as many as Size says
 unfoldable pub neededOf : List ℕ → ℕ

@@ -8,7 +8,7 @@ use Rattle.wire.specs.Number.{number}
 use Rattle.wire.specs.declared.status.Status.the-variants as status
 use Rattle.message.specs.Rules.{rolesOf, roleOf, lengthsOf, lengthOk, knownCommand}
 use Rattle.message.specs.Record.{fieldOf, withField, emptyOf}
-use Rattle.message.specs.Reading.{headerOf, hasNeeded, isComplete, tlvAt, lastOf, tlvsFrom, readMessage}
+use Rattle.message_reader.specs.Reading.{headerOf, hasNeeded, isComplete, tlvAt, lastOf, tlvsFrom, readMessage}
 use Rattle.recording.specs.declared.line.Line.the-variants as line
 use Rattle.recording.specs.Line.{lineOf}
 use Rattle.recording.specs.Listing.{linesFrom, linesAt, listing}

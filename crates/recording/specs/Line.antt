@@ -6,9 +6,9 @@ use lib.ListN.{length, take}
 use lib.Dec.{ltb, eqb}
 use Rattle.wire.specs.declared.status.Status.{Status}
 use Rattle.wire.specs.declared.status.Status.the-variants as status
-use Rattle.message.specs.declared.reader.Answer.{Answer}
-use Rattle.message.specs.declared.reader.Answer.the-variants as answer
-use Rattle.message.specs.Reading.{sizeIn, readMessage}
+use Rattle.message_reader.specs.declared.Answer.{Answer}
+use Rattle.message_reader.specs.declared.Answer.the-variants as answer
+use Rattle.message_reader.specs.Reading.{sizeIn, readMessage}
 use Rattle.recording.specs.declared.line.Line.{Line}
 use Rattle.recording.specs.declared.line.Line.the-variants as line
 

@@ -5,9 +5,9 @@ use mathlib.Core.List.{List, [], _∷_, _++_}
 use lib.ListN.{length, take, drop}
 use Rattle.wire.specs.declared.status.Status.{Status}
 use Rattle.message.specs.declared.record.Message.{Message}
-use Rattle.message.specs.declared.reader.Answer.the-variants as answer
-use Rattle.message.specs.Reading.{sizeIn, commandIn, readMessage}
-use Rattle.message.specs.Theorems.{Bytes}
+use Rattle.message_reader.specs.declared.Answer.the-variants as answer
+use Rattle.message_reader.specs.Reading.{sizeIn, commandIn, readMessage}
+use Rattle.message_reader.specs.Theorems.{Bytes}
 use Rattle.recording.specs.declared.line.Line.{Line}
 use Rattle.recording.specs.declared.line.Line.the-variants as line
 use Rattle.recording.specs.Cut.{neededOf}

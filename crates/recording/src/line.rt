@@ -1,8 +1,7 @@
 // A line of the listing.
 ghost use mathlib.Core.Path.{_≡_};
 ghost use Rattle.recording.specs.Line.{statusOf, lineOf};
-use message::reader;
-use message::reader::Answer;
+use message_reader::Answer;
 use wire::number::u16_at;
 use wire::status::Status;
 
@@ -46,7 +45,7 @@ pub fn first_line(bytes: &[u8]) -> Line
             status: Status::Truncated,
         };
     }
-    let answer = reader::read(&bytes[..size]);
+    let answer = message_reader::read(&bytes[..size]);
     let Answer::Accepted(message) = answer else {
         return Line::Refused {
             status: status_of(answer),

@@ -2,9 +2,9 @@
 use Prim.Native.Nat.{ℕ}
 use mathlib.Core.List.{List}
 use Rattle.wire.specs.declared.status.Status.the-variants as status
-use Rattle.message.specs.declared.reader.Answer.{Answer}
-use Rattle.message.specs.declared.reader.Answer.the-variants as answer
-use Rattle.message.specs.Reading.{readMessage}
+use Rattle.message_reader.specs.declared.Answer.{Answer}
+use Rattle.message_reader.specs.declared.Answer.the-variants as answer
+use Rattle.message_reader.specs.Reading.{readMessage}
 use Rattle.message.specs.Accessors.{sourceOf, optionsOf}
 use Rattle.session.specs.declared.record.Session.{Session}
 use Rattle.session.specs.declared.step.Stepped.{Stepped}

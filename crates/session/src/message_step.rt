@@ -5,8 +5,7 @@ use crate::record::Session;
 use crate::step;
 use crate::step::Stepped;
 use message::accessors;
-use message::reader;
-use message::reader::Answer;
+use message_reader::Answer;
 use wire::status::Status;
 
 // A message that the reader refused: its refusal is passed on with its place, and the session stays. (An accepted one is answered as
@@ -24,7 +23,7 @@ fn not_read(answer: Answer, session: Session) -> Stepped
 pub fn on_message(session: Session, bytes: &[u8]) -> Stepped
     ensures { λ r. ⌜ r ≡ onMessage session (now (bytes .entry)) ⌝ }
 {
-    let answer = reader::read(bytes);
+    let answer = message_reader::read(bytes);
     let Answer::Accepted(record) = answer else {
         return not_read(answer, session);
     };

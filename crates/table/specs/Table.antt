@@ -12,11 +12,11 @@ use Rattle.wire.specs.Number.{number}
 use Rattle.wire.specs.Sequence.{distance, isNewer}
 use Rattle.wire.specs.Signed.{signed}
 use Rattle.wire.specs.Status.{numberOf}
-use Rattle.message.specs.declared.reader.Answer.{Answer}
-use Rattle.message.specs.declared.reader.Answer.the-variants as read
+use Rattle.message_reader.specs.declared.Answer.{Answer}
+use Rattle.message_reader.specs.declared.Answer.the-variants as read
 use Rattle.message.specs.Rules.{rolesOf, roleOf, lengthsOf, lengthOk, knownCommand}
 use Rattle.message.specs.Record.{fieldOf, withField, emptyOf}
-use Rattle.message.specs.Reading.{headerOf, hasNeeded, isComplete, tlvAt, lastOf, tlvsFrom, readMessage}
+use Rattle.message_reader.specs.Reading.{headerOf, hasNeeded, isComplete, tlvAt, lastOf, tlvsFrom, readMessage}
 use Rattle.message.specs.Accessors.{portOf}
 use Rattle.session.specs.declared.record.State.{State}
 use Rattle.session.specs.declared.record.State.the-variants as state

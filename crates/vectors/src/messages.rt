@@ -3,9 +3,8 @@ use crate::print::byte;
 use crate::print::number;
 use crate::print::text;
 use message::accessors;
-use message::reader;
-use message::reader::Answer;
 use message::record::Message;
+use message_reader::Answer;
 use message_writer::Written;
 use message_writer::write;
 use wire::status;
@@ -63,7 +62,7 @@ fn accepted(bytes: &[u8], message: Message) {
 // A message under its name, in one line.
 fn show(name: &[u8], bytes: &[u8]) {
     text(name);
-    match reader::read(bytes) {
+    match message_reader::read(bytes) {
         Answer::Accepted(message) => accepted(bytes, message),
         Answer::Refused { status, place } => {
             text(b" refused ");

@@ -8,8 +8,7 @@ use native.Mathlib.Decide.{decLt}
 use borrow.Author.Tests.{leb-true, eqb-false, not-true}
 use lib.Dec.{leb, eqb}
 use lib.ListN.{length, getD, List·getD-eq-default}
-use Rattle.message.specs.Rules.{foreign, noRoles, entryOf, rolesOf, roleOf, noLengths, lengthsOf, lengthOk}
-use Rattle.message.specs.Checking.{seen}
+use Rattle.message.specs.Rules.{foreign, seen, noRoles, entryOf, rolesOf, roleOf, noLengths, lengthsOf, lengthOk}
 use Rattle.wire.proofs.Laws.Bool.{both}
 
 -- what holds of every row of the table, and of no command, holds of every command

@@ -7,11 +7,11 @@ use borrow.Author.Tests.{lt-ltb, le-ltb}
 use lib.ListN.{length}
 use Rattle.wire.specs.declared.status.Status.the-variants as status
 use Rattle.message.specs.declared.record.Message.{Message}
-use Rattle.message.specs.declared.reader.Answer.{Answer}
-use Rattle.message.specs.declared.reader.Answer.the-variants as reader
+use Rattle.message_reader.specs.declared.Answer.{Answer}
+use Rattle.message_reader.specs.declared.Answer.the-variants as reader
 use Rattle.message_writer.specs.declared.Written.{Written}
 use Rattle.message.specs.declared.accessors.SourceId.{SourceId}
-use Rattle.message.specs.Reading.{commandIn, readMessage}
+use Rattle.message_reader.specs.Reading.{commandIn, readMessage}
 use Rattle.wire.specs.Number.{number}
 use Rattle.message_writer.specs.Writing.{writeAnswer, output}
 use Rattle.message.specs.Accessors.{sourceOf}

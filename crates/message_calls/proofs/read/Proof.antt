@@ -4,10 +4,10 @@ use mathlib.Core.Path.{sym, ap, _∙_}
 use native.Mathlib.Omega.{arith}
 use denote.Ref.{now}
 use Rattle.wire.specs.Status.{numberOf}
-use Rattle.message.specs.declared.reader.Answer.the-variants as answer
-use Rattle.message.specs.declared.reader.Verdict.{Verdict}
-use Rattle.message.specs.Reading.{readMessage}
-use Rattle.message.proofs.Laws.Reading.{zero-accepted, other-refused}
+use Rattle.message_reader.specs.declared.Answer.the-variants as answer
+use Rattle.message_reader.specs.declared.Verdict.{Verdict}
+use Rattle.message_reader.specs.Reading.{readMessage}
+use Rattle.message_reader.proofs.Laws.Reading.{zero-accepted, other-refused}
 use Rattle.message_calls.proofs.Laws.MessageCalls.{command-byte, read-short, read-answered}
 use borrow.Author.Needs.{needs}
 use Rattle.message_calls.proofs.read.Statement.{statement}

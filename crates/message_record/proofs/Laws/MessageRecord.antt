@@ -12,13 +12,13 @@ use Rattle.message.specs.declared.record.Field.{Field}
 use Rattle.message.specs.declared.record.Message.{Message}
 use Rattle.message.specs.Record.{fieldOf}
 use Rattle.message.specs.Rules.{roleOf, foreign}
-use Rattle.message.specs.Reading.{commandIn, typeAt, valueAt}
-use Rattle.message.specs.Theorems.{Reached, AcceptedExactly}
-use Rattle.message.specs.Theorems as given
-use Rattle.message.proofs.Laws.Reading.{accepted-exactly}
+use Rattle.message_reader.specs.Reading.{commandIn, typeAt, valueAt}
+use Rattle.message_reader.specs.Theorems.{Reached, AcceptedExactly}
+use Rattle.message_reader.specs.Theorems as given
+use Rattle.message_reader.proofs.Laws.Reading.{accepted-exactly}
 use Rattle.message.proofs.Laws.Record.{field-with, field-empty}
 use Rattle.message.proofs.Laws.Rules.{type-small, type-not-1}
-use Rattle.message.proofs.Laws.WellFormed.{sound}
+use Rattle.message_reader.proofs.Laws.WellFormed.{sound}
 use Rattle.little_endian.specs.Layout.{flag, laid}
 use Rattle.little_endian.specs.Little.{bytes, written}
 use Rattle.message_record.specs.MessageRecord.{fieldBytes, fieldIn, messageBytes, messageIn, Fits, MessageBack, AcceptedBack}

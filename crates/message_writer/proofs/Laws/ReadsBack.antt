@@ -16,20 +16,20 @@ use Rattle.wire.specs.Number.{number, bytes}
 use Rattle.wire.specs.declared.status.Status.{Status}
 use Rattle.message.specs.declared.record.Field.{Field}
 use Rattle.message.specs.declared.record.Message.{Message}
-use Rattle.message.specs.declared.reader.Answer.the-variants as answer
+use Rattle.message_reader.specs.declared.Answer.the-variants as answer
 use Rattle.message_writer.specs.declared.Written.{Written}
 use Rattle.message_writer.specs.declared.Written.the-variants as written
 use Rattle.message.specs.Rules.{roleOf, foreign, needed}
 use Rattle.message.specs.Record.{absent, fieldOf, valueOf, withField, emptyOf, sizeTo}
-use Rattle.message.specs.Reading.{commandIn, typeAt, lengthAt, nextAt, valueAt, readMessage}
+use Rattle.message_reader.specs.Reading.{commandIn, typeAt, lengthAt, nextAt, valueAt, readMessage}
 use Rattle.message_writer.specs.Writing.{writable, tlvBytes, bodyTo, headBytes, messageOf, writeAnswer, output}
-use Rattle.message.specs.Theorems.{Headed, Taken, Reached, AcceptedExactly}
+use Rattle.message_reader.specs.Theorems.{Headed, Taken, Reached, AcceptedExactly}
 use Rattle.message_writer.specs.Theorems.{SameMessage, ReadsBack}
-use Rattle.message.specs.Theorems as given
+use Rattle.message_reader.specs.Theorems as given
 use Rattle.wire.proofs.Laws.Bool.{either, by-test}
 use Rattle.message.proofs.Laws.Rules.{type-small}
 use Rattle.message.proofs.Laws.Record.{field-same, field-other, field-empty, field-type, past, command-with, command-empty}
-use Rattle.message.proofs.Laws.Reading.{accepted-exactly}
+use Rattle.message_reader.proofs.Laws.Reading.{accepted-exactly}
 use Rattle.message.proofs.Laws.Size.{size-least, size-grows, size-there}
 use Rattle.message_writer.proofs.Laws.Writing.{ok-expected, ok-within, ok-fitting, ok-small, ok-absent}
 use Rattle.message.proofs.Laws.Size.{size-none}

@@ -12,9 +12,9 @@ use lib.Dec.{ltb, eqb}
 use Rattle.wire.proofs.Laws.Number.{number-same, number-small}
 use Rattle.wire.specs.declared.status.Status.the-variants as status
 use Rattle.message.specs.declared.record.Message.{Message}
-use Rattle.message.specs.declared.reader.Answer.{Answer}
-use Rattle.message.specs.declared.reader.Answer.the-variants as answer
-use Rattle.message.specs.Reading.{sizeIn, readMessage}
+use Rattle.message_reader.specs.declared.Answer.{Answer}
+use Rattle.message_reader.specs.declared.Answer.the-variants as answer
+use Rattle.message_reader.specs.Reading.{sizeIn, readMessage}
 use Rattle.wire.proofs.Laws.Bool.{either, by-test}
 use Rattle.recording.specs.declared.line.Line.{Line}
 use Rattle.recording.specs.declared.line.Line.the-variants as line

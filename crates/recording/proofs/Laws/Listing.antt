@@ -7,11 +7,11 @@ use borrow.Author.Tests.{le-ltb}
 use lib.ListN.{length, drop, length-append, length-drop}
 use lib.Seq.{drop-append-seam, take-length}
 use Rattle.message.specs.declared.record.Message.{Message}
-use Rattle.message.specs.declared.reader.Answer.the-variants as answer
-use Rattle.message.specs.Reading.{commandIn, readMessage}
-use Rattle.message.specs.Theorems.{AcceptedExactly, AcceptedWellFormed}
-use Rattle.message.proofs.Laws.Reading.{accepted-exactly}
-use Rattle.message.proofs.Laws.WellFormed.{accepted-well-formed}
+use Rattle.message_reader.specs.declared.Answer.the-variants as answer
+use Rattle.message_reader.specs.Reading.{commandIn, readMessage}
+use Rattle.message_reader.specs.Theorems.{AcceptedExactly, AcceptedWellFormed}
+use Rattle.message_reader.proofs.Laws.Reading.{accepted-exactly}
+use Rattle.message_reader.proofs.Laws.WellFormed.{accepted-well-formed}
 use Rattle.recording.specs.declared.line.Line.{Line}
 use Rattle.recording.specs.declared.line.Line.the-variants as line
 use Rattle.recording.specs.Cut.{neededOf}

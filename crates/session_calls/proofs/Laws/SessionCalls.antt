@@ -10,9 +10,9 @@ use lib.ListN.{length}
 use Rattle.wire.specs.Status.{numberOf}
 use Rattle.wire.specs.declared.status.Status.the-variants as status
 use Rattle.wire.proofs.Laws.Bool.{by-test}
-use Rattle.message.specs.declared.reader.Answer.{Answer}
-use Rattle.message.specs.declared.reader.Answer.the-variants as reader
-use Rattle.message.specs.Reading.{readMessage}
+use Rattle.message_reader.specs.declared.Answer.{Answer}
+use Rattle.message_reader.specs.declared.Answer.the-variants as reader
+use Rattle.message_reader.specs.Reading.{readMessage}
 use Rattle.message.specs.Accessors.{sourceOf, optionsOf}
 use Rattle.session.specs.declared.record.Session.{Session}
 use Rattle.session.specs.declared.step.Stepped.{Stepped}

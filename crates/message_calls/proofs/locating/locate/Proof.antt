@@ -6,9 +6,9 @@ use borrow.Author.Needs.{needs}
 use denote.Ref.{now}
 use lib.ListN.{length}
 use Rattle.message.specs.Record.{emptyOf}
-use Rattle.message.specs.Reading.{commandIn, tlvsFrom, readMessage}
-use Rattle.message.specs.Checking.{verdictOf}
-use Rattle.message.proofs.Laws.Reading.{header-command, header-refused, headed-short, headed-read}
+use Rattle.message_reader.specs.Reading.{commandIn, tlvsFrom, readMessage}
+use Rattle.message_reader.specs.Checking.{verdictOf}
+use Rattle.message_reader.proofs.Laws.Reading.{header-command, header-refused, headed-short, headed-read}
 use Rattle.message_calls.proofs.Laws.Locating.{located-same, located-refused}
 use Rattle.message_calls.proofs.locating.locate.Statement.{statement}
 use Rattle.message_calls.proofs.locating.locate.Tie as tie

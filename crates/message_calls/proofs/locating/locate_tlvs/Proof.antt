@@ -5,7 +5,7 @@ use native.Mathlib.Omega.{arith}
 use borrow.Author.Needs.{needs}
 use denote.Ref.{now}
 use lib.ListN.{length}
-use Rattle.message.proofs.Laws.Checking.{Fits, checked-fits}
+use Rattle.message_reader.proofs.Laws.Checking.{Fits, checked-fits}
 use Rattle.message_calls.proofs.Laws.Locating.{Found, found-start, found-next, found-refused, found-complete, found-missing}
 use Rattle.message_calls.proofs.locating.locate_tlvs.Statement.{statement}
 use Rattle.message_calls.proofs.locating.locate_tlvs.Tie as tie

@@ -1,7 +1,7 @@
 -- Each arm refuses as `unread` says. Assumes nothing.
 use mathlib.Core.Path.{sym, ap, _∙_}
 use borrow.Author.Needs.{needs}
-use Rattle.message.specs.declared.reader.Answer.{Answer}
+use Rattle.message_reader.specs.declared.Answer.{Answer}
 use Rattle.session.specs.Message.{unread}
 use Rattle.session.proofs.message_step.not_read.Statement.{statement}
 use Rattle.session.proofs.message_step.not_read.Tie as tie

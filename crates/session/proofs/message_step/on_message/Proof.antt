@@ -4,9 +4,9 @@ use mathlib.Core.Path.{_≡_, sym, ap, _∙_}
 use mathlib.Core.List.{List}
 use borrow.Author.Needs.{needs}
 use denote.Ref.{now}
-use Rattle.message.specs.declared.reader.Answer.{Answer}
-use Rattle.message.specs.declared.reader.Answer.the-variants as answer
-use Rattle.message.specs.Reading.{readMessage}
+use Rattle.message_reader.specs.declared.Answer.{Answer}
+use Rattle.message_reader.specs.declared.Answer.the-variants as answer
+use Rattle.message_reader.specs.Reading.{readMessage}
 use Rattle.session.specs.declared.record.Session.{Session}
 use Rattle.session.specs.declared.step.Stepped.{Stepped}
 use Rattle.session.specs.Message.{unread, afterRead, onMessage}

@@ -1,0 +1,4 @@
+pub mod Reading
+pub mod Checking
+pub mod WellFormed
+pub mod Fields
