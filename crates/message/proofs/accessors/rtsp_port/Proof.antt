@@ -1,5 +1,7 @@
 -- Where the value is there, the number is read at its place. Assumes nothing.
 use Rattle.message.specs.Accessors.{portOf}
+use mathlib.Core.Path.{_≡_}
+use mathlib.Core.Bool.{true, false}
 use borrow.Author.Needs.{needs}
 use Rattle.message.proofs.accessors.rtsp_port.Statement.{statement}
 use Rattle.message.proofs.accessors.rtsp_port.Tie as tie
@@ -12,11 +14,17 @@ u16-at-requires c κs = search needs
 
 returns : tie.Need-returns
 unfolding portOf
-returns c = simp (c .before .before .if1 .taken, ← c .u16-at .ensures)
+returns c =
+    let m = c .before .before .before .before .before .args .message in
+    let there : m .«rtsp_port» .present ≡ true = c .before .before .if1 .taken in
+    simp (there, ← c .u16-at .ensures)
 
 returns-2 : tie.Need-returns-2
 unfolding portOf
-returns-2 c = simp (c .if1 .left)
+returns-2 c =
+    let m = c .before .before .before .args .message in
+    let absent : m .«rtsp_port» .present ≡ false = c .if1 .left in
+    simp absent
 
 pub rtsp-port-spec : {M : Type 1} → statement M
 rtsp-port-spec = tie.close (tie.spec cast-u16-at u16-at-requires returns returns-2)
