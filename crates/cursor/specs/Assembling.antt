@@ -7,7 +7,7 @@ use Rattle.wire.specs.declared.status.Status.{Status}
 use Rattle.packet.specs.Checks.{firstOf, accepted}
 use Rattle.packet.specs.Fragment.{fragmentOf, dataOf}
 use Rattle.packet.specs.declared.fragment.Fragment.{Fragment}
-use Rattle.cursor.specs.declared.picture.Picture.{Picture}
+use Rattle.picture.specs.declared.Picture.{Picture}
 use Rattle.cursor.specs.declared.storing.Assembled.{Assembled}
 use Rattle.cursor.specs.Judging.{judging}
 use Rattle.cursor.specs.Storing.{pictureAfter, imageAfter, marksAfter, storeStatus}

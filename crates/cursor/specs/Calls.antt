@@ -8,8 +8,8 @@ use lib.Dec.{leb, ltb}
 use lib.ListN.{length, getD}
 use Rattle.wire.specs.Sequence.{isNewer}
 use Rattle.packet.specs.Fragment.{fragmentOf, dataOf}
-use Rattle.cursor.specs.declared.pointer.Pointer.{Pointer}
-use Rattle.cursor.specs.declared.picture.Picture.{Picture}
+use Rattle.pointer.specs.declared.Pointer.{Pointer}
+use Rattle.picture.specs.declared.Picture.{Picture}
 use Rattle.cursor.specs.declared.storing.StoreAnswer.{StoreAnswer}
 use Rattle.cursor.specs.declared.storing.StoreAnswer.the-variants.{Accepted, Refused}
 use Rattle.cursor.specs.Judging.{ofOpened}

@@ -9,10 +9,10 @@ use Rattle.scan.specs.Empty.{filledAt}
 use Rattle.packet.specs.Checks.{accepted}
 use Rattle.packet.specs.Fragment.{isStart, fragmentOf, fragmentStatus, dataOf}
 use Rattle.packet.specs.declared.start.Start.{Start}
-use Rattle.cursor.specs.declared.completeness.CompleteAnswer.the-variants.{Yes}
-use Rattle.cursor.specs.Picture.{held}
+use Rattle.picture.specs.declared.completeness.CompleteAnswer.the-variants.{Yes}
+use Rattle.picture.specs.Picture.{held}
+use Rattle.picture.specs.Completeness.{completeness}
 use Rattle.cursor.specs.Judging.{part}
-use Rattle.cursor.specs.Completeness.{completeness}
 use Rattle.cursor.specs.Calls.{State, Call, fragment, other, isAccepted, answered, next, run, covers}
 
 -- one whole picture under its id; its total is the number of its bytes

@@ -1,5 +1,5 @@
--- Small examples of this crate's definitions, P9 and P10 of 01, "Proved table of small examples", among them. Those that end in `refl`
--- are computed here; the proofs of `PremisesMet` and `SameFromBoth` stand in proofs/Laws/Examples.antt.
+-- Small examples of the definitions of this crate, `pointer` and `picture`, P9 and P10 of 01, "Proved table of small examples", among them.
+-- Those that end in `refl` are computed here; the proofs of `PremisesMet` and `SameFromBoth` stand in proofs/Laws/Examples.antt.
 use Prim.Native.Nat.{ℕ}
 use mathlib.Core.Path.{_≡_, refl}
 use mathlib.Core.Bool.{true, false}
@@ -20,13 +20,13 @@ use Rattle.packet.specs.Position.{positionChecks, positionOf}
 use Rattle.packet.specs.Fragment.{takesType, headerOf, imageData, offsetOf, outside, fragmentFrame, fragmentChecks, startFragment, continuationFragment, fragmentOf}
 use Rattle.packet.specs.Continuation.{continuationOf, placeOf}
 use Rattle.packet.specs.Start.{startOf, noStart}
-use Rattle.cursor.specs.declared.pointer.PointerAnswer.the-variants as pointer
-use Rattle.cursor.specs.declared.completeness.CompleteAnswer.the-variants as complete
-use Rattle.cursor.specs.Pointer.{freshPointer, movedTo, positionStatus, positioned}
-use Rattle.cursor.specs.Picture.{freshPicture, hasRoom, held}
+use Rattle.pointer.specs.declared.PointerAnswer.the-variants as pointer
+use Rattle.pointer.specs.Pointer.{freshPointer, movedTo, positionStatus, positioned}
+use Rattle.picture.specs.declared.completeness.CompleteAnswer.the-variants as complete
+use Rattle.picture.specs.Picture.{freshPicture, hasRoom, held}
+use Rattle.picture.specs.Completeness.{allFilled, completeness}
 use Rattle.cursor.specs.Judging.{ofOpened, sameStart, startDiffers, bytesDiffer, openedRules, otherRules, judging}
 use Rattle.cursor.specs.Storing.{openedFor, clearedFor, imageAfter, marksAfter, withStart, pictureAfter, pointerAfter, outcome, storeChecks, storeStatus, stored}
-use Rattle.cursor.specs.Completeness.{allFilled, completeness}
 use Rattle.cursor.specs.Calls.{State, Call, fragment, other, next, run}
 use Rattle.cursor.specs.DemandThree.{Whole, Given, SameFragments, SameEnd}
 

@@ -14,8 +14,8 @@ use Rattle.scan.specs.Conflict.{conflictIn}
 use Rattle.packet.specs.Checks.{Check, refuse, firstOf}
 use Rattle.packet.specs.declared.fragment.Fragment.{Fragment}
 use Rattle.packet.specs.declared.start.Start.{Start}
-use Rattle.cursor.specs.declared.picture.Picture.{Picture}
-use Rattle.cursor.specs.Picture.{hasRoom}
+use Rattle.picture.specs.declared.Picture.{Picture}
+use Rattle.picture.specs.Picture.{hasRoom}
 
 -- a picture is opened, and the fragment is of its id
 unfoldable pub ofOpened : Picture → Fragment → Bool

@@ -12,12 +12,12 @@ use Rattle.packet.specs.Checks.{Check, refuse, firstOf, accepted}
 use Rattle.packet.specs.Fragment.{isStart, fragmentChecks, fragmentOf, dataOf}
 use Rattle.packet.specs.Start.{noStart}
 use Rattle.packet.specs.declared.fragment.Fragment.{Fragment}
-use Rattle.cursor.specs.declared.pointer.Pointer.{Pointer}
-use Rattle.cursor.specs.declared.picture.Picture.{Picture}
+use Rattle.pointer.specs.declared.Pointer.{Pointer}
+use Rattle.pointer.specs.Pointer.{movedTo}
+use Rattle.picture.specs.declared.Picture.{Picture}
+use Rattle.picture.specs.Picture.{held}
 use Rattle.cursor.specs.declared.storing.StoreAnswer.{StoreAnswer}
 use Rattle.cursor.specs.declared.storing.StoreAnswer.the-variants.{Accepted, Refused}
-use Rattle.cursor.specs.Pointer.{movedTo}
-use Rattle.cursor.specs.Picture.{held}
 use Rattle.cursor.specs.Judging.{ofOpened, judging, withSequence}
 
 -- Opening: "marks of places 0 to total − 1 become 0, start fields 0 and unseen".

@@ -1,11 +1,6 @@
-// The cursor stream (01, "Cursor packets"): the pointer's position, and a cursor image put together from fragments that come in any order
-// and any number of times.
-pub mod completeness;
+// The call for starts and continuations (01, "Cursor packets"): a cursor image is put together from fragments that come in any order and any
+// number of times. The pointer, the picture's record and the completeness question stand in crates pointer and picture.
 mod judging;
-pub mod picture;
-pub mod pointer;
 pub mod storing;
 
-pub use completeness::complete;
-pub use pointer::position;
 pub use storing::store;

@@ -1,8 +1,8 @@
 // The calls of the cursor stream over lent records. Crate ashlarsilk exports each, and says there in words what a host gets.
 ghost use mathlib.Core.Path.{_≡_};
 ghost use lib.ListN.{length};
-ghost use Rattle.cursor.specs.Pointer.{freshPointer};
-ghost use Rattle.cursor.specs.Picture.{freshPicture};
+ghost use Rattle.pointer.specs.Pointer.{freshPointer};
+ghost use Rattle.picture.specs.Picture.{freshPicture};
 ghost use Rattle.little_endian.specs.Layout.{laid};
 ghost use Rattle.cursor_records.specs.PointerRecord.{pointerBytes};
 ghost use Rattle.cursor_records.specs.PictureRecord.{pictureBytes};
@@ -12,12 +12,12 @@ use answers::Answer;
 use answers::Yes;
 use answers::accept;
 use answers::refuse;
-use cursor::completeness::CompleteAnswer;
-use cursor::picture::Picture;
-use cursor::pointer::Pointer;
 use cursor::storing;
 use cursor_records::picture_record;
 use cursor_records::pointer_record;
+use picture::Picture;
+use picture::completeness::CompleteAnswer;
+use pointer::Pointer;
 use wire::status;
 use wire::status::Status;
 
@@ -46,7 +46,7 @@ pub fn position(pointer: &mut [u8], packet: &[u8]) -> Answer
     if pointer.len() < pointer_record::LENGTH {
         return refuse(Status::NoRoom, 0);
     }
-    let after = cursor::pointer::take(pointer_record::read(pointer), packet);
+    let after = pointer::take(pointer_record::read(pointer), packet);
     let status = after.status;
     let set = after.pointer;
     if status::number(status) != 0 {
@@ -121,5 +121,5 @@ pub fn complete(picture: &[u8], image: &[u8], marks: &[u8]) -> Yes
             place: 0,
         });
     }
-    answered(cursor::complete(picture_record::read(picture), image, marks))
+    answered(picture::complete(picture_record::read(picture), image, marks))
 }

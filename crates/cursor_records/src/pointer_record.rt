@@ -8,11 +8,11 @@
 ghost use mathlib.Core.Path.{_≡_};
 ghost use Rattle.little_endian.specs.Layout.{laid};
 ghost use Rattle.cursor_records.specs.PointerRecord.{pointerBytes, pointerOf};
-use cursor::pointer::Pointer;
 use little_endian::put_u8;
 use little_endian::put_u16;
 use little_endian::u8_at;
 use little_endian::u16_at;
+use pointer::Pointer;
 use wire::signed::signed16;
 use wire::signed::unsigned16;
 

@@ -1,13 +1,13 @@
-// Runs the calls of `cursor` and prints a line a call: the call, the paper's number of its status, and what then stands in the records,
-// in five bytes of the picture and in the marks beside them. The packets are P9 and P10 of 01, those of 003 section 4, and orders,
-// repeats and refusals of a small picture.
-use cursor::completeness::CompleteAnswer;
-use cursor::picture::Picture;
-use cursor::pointer::Pointer;
-use cursor::pointer::PointerAnswer;
+// Runs the calls of `pointer`, `cursor` and `picture` and prints a line a call: the call, the paper's number of its status, and what then
+// stands in the records, in five bytes of the picture and in the marks beside them. The packets are P9 and P10 of 01, those of 003 section 4,
+// and orders, repeats and refusals of a small picture.
 use cursor::storing::StoreAnswer;
 use libc::STDOUT_FILENO;
 use packet::start::Start;
+use picture::Picture;
+use picture::completeness::CompleteAnswer;
+use pointer::Pointer;
+use pointer::PointerAnswer;
 use scan::bytes;
 use wire::number;
 use wire::signed;
@@ -92,7 +92,7 @@ fn print_five(s: &[u8], step: usize) {
 
 fn call_position(pointer: Pointer, packet: &[u8]) -> Pointer {
     print(b"position");
-    let next = match cursor::position(pointer, packet) {
+    let next = match pointer::position(pointer, packet) {
         PointerAnswer::Accepted(moved) => {
             print_status(Status::Accepted);
             moved
@@ -154,7 +154,7 @@ fn call_store(
 fn call_complete(records: Records, image: &[u8], marks: &[u8]) {
     print(b"complete");
     let picture = records.picture;
-    match cursor::complete(picture, image, marks) {
+    match picture::complete(picture, image, marks) {
         CompleteAnswer::Yes => print(b" yes"),
         CompleteAnswer::No => print(b" no"),
         CompleteAnswer::Refused { status, place } => print_status(status),

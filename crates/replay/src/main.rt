@@ -1,14 +1,14 @@
-// Plays a recorded stream of calls at `cursor` and prints what they answer. The stream is a file of frames of 40 bytes: the call (1 position,
-// 2 store, any other the completeness question), the packet's length, the packet, and bytes that are not looked at. The picture and its marks
-// have 40 places. A line for each 16 calls: their numbers (for the completeness question 100 no, 101 yes), then a sum over both records, the
-// picture and the marks.
+// Plays a recorded stream of calls at `pointer`, `cursor` and `picture` and prints what they answer. The stream is a file of frames of 40
+// bytes: the call (1 position, 2 store, any other the completeness question), the packet's length, the packet, and bytes that are not looked
+// at. The picture and its marks have 40 places. A line for each 16 calls: their numbers (for the completeness question 100 no, 101 yes), then
+// a sum over both records, the picture and the marks.
 ghost use Prim.Native.Nat.{_<_};
-use cursor::completeness::CompleteAnswer;
-use cursor::picture::Picture;
-use cursor::pointer::Pointer;
-use cursor::pointer::PointerAnswer;
 use cursor::storing::StoreAnswer;
 use libc::STDOUT_FILENO;
+use picture::Picture;
+use picture::completeness::CompleteAnswer;
+use pointer::Pointer;
+use pointer::PointerAnswer;
 use wire::number;
 use wire::signed;
 use wire::status;
@@ -97,7 +97,7 @@ fn counted(state: State) -> State {
 fn call_position(state: State, packet: &[u8]) -> State {
     let pointer = state.pointer;
     let mut next = state;
-    match cursor::position(pointer, packet) {
+    match pointer::position(pointer, packet) {
         PointerAnswer::Accepted(moved) => {
             print_number(0);
             next.pointer = moved;
@@ -144,7 +144,7 @@ fn call_complete(state: State) {
     let picture = state.picture;
     let image = state.image;
     let marks = state.marks;
-    match cursor::complete(picture, &image, &marks) {
+    match picture::complete(picture, &image, &marks) {
         CompleteAnswer::Yes => print_number(101),
         CompleteAnswer::No => print_number(100),
         CompleteAnswer::Refused { status, place } => print_number(status::number(status) as u64),

@@ -2,11 +2,11 @@
 // no image: here the sequence numbers are 0, 1 and 2, and the halves of the image are 65 and 66.
 use crate::print::number;
 use crate::print::text;
-use cursor::completeness::CompleteAnswer;
-use cursor::picture::Picture;
-use cursor::pointer::Pointer;
-use cursor::pointer::PointerAnswer;
 use cursor::storing::StoreAnswer;
+use picture::Picture;
+use picture::completeness::CompleteAnswer;
+use pointer::Pointer;
+use pointer::PointerAnswer;
 use scan::bytes;
 use wire::signed;
 use wire::status;
@@ -50,7 +50,7 @@ fn show_picture(picture: Picture) {
 
 fn position(pointer: Pointer, packet: &[u8]) -> Pointer {
     text(b"003-4-position");
-    match cursor::position(pointer, packet) {
+    match pointer::position(pointer, packet) {
         PointerAnswer::Accepted(moved) => {
             text(b" accepted");
             show_pointer(moved);
@@ -68,7 +68,7 @@ fn show_complete(state: State) {
     let picture = state.picture;
     let image = state.image;
     let marks = state.marks;
-    match cursor::complete(picture, &image, &marks) {
+    match picture::complete(picture, &image, &marks) {
         CompleteAnswer::Yes => text(b" complete yes\n"),
         CompleteAnswer::No => text(b" complete no\n"),
         CompleteAnswer::Refused { status, place } => refused(status),

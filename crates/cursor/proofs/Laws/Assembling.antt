@@ -15,12 +15,12 @@ use Rattle.packet.specs.Fragment.{isStart, imageData, startFragment, continuati
 use Rattle.packet.specs.Parsing.{parsedAs, parsed}
 use Rattle.packet.specs.Start.{startPosition}
 use Rattle.packet.proofs.Laws.Fragment.{starts-is, data-inside}
-use Rattle.cursor.specs.declared.pointer.Pointer.{Pointer}
-use Rattle.cursor.specs.declared.picture.Picture.{Picture}
+use Rattle.pointer.specs.declared.Pointer.{Pointer}
+use Rattle.pointer.specs.Pointer.{movedTo}
+use Rattle.picture.specs.declared.Picture.{Picture}
+use Rattle.picture.specs.Picture.{held}
 use Rattle.cursor.specs.declared.storing.Assembled.{Assembled}
 use Rattle.cursor.specs.declared.storing.StoreAnswer.the-variants.{Accepted, Refused}
-use Rattle.cursor.specs.Picture.{held}
-use Rattle.cursor.specs.Pointer.{movedTo}
 use Rattle.cursor.specs.Storing.{after, pointerAfter, outcome, storeStatus, stored}
 use Rattle.cursor.specs.Assembling.{Left, left, assembledAs, fragmentAssembled, assembled}
 use Rattle.cursor.proofs.Laws.Storing.{store-status}

@@ -14,13 +14,14 @@ use Rattle.packet.specs.Checks.{firstOf, accepted}
 use Rattle.packet.specs.Fragment.{fragmentOf, dataOf, DataInside}
 use Rattle.packet.specs.declared.fragment.Fragment.{Fragment}
 use Rattle.packet.proofs.Laws.Fragment.{data-inside}
-use Rattle.cursor.specs.declared.pointer.Pointer.{Pointer}
-use Rattle.cursor.specs.declared.picture.Picture.{Picture}
+use Rattle.pointer.specs.declared.Pointer.{Pointer}
+use Rattle.picture.specs.declared.Picture.{Picture}
+use Rattle.picture.proofs.Laws.Picture.{room-says}
 use Rattle.cursor.specs.declared.storing.StoreAnswer.the-variants.{Refused}
 use Rattle.cursor.specs.Judging.{ofOpened, opens, judging}
 use Rattle.cursor.specs.Storing.{after, openedBy, openedFor, clearedFor, imageAfter, marksAfter, withStart, pictureAfter, pointerAfter, outcome, storeStatus, stored}
 use Rattle.cursor.specs.Calls.{State, isAccepted, answered, next, covers, RefusalKeeps, OutsideKept, FormerStaysClosed}
-use Rattle.cursor.proofs.Laws.Judging.{room-says, judged-room, judged-late}
+use Rattle.cursor.proofs.Laws.Judging.{judged-room, judged-late}
 use Rattle.cursor.proofs.Laws.Storing.{store-passed}
 
 module _ (t : Status) (p : Pointer) (q : Picture) (f : Fragment) (ds image marks : List ℕ) where

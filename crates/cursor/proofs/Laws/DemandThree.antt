@@ -24,18 +24,18 @@ use Rattle.packet.specs.declared.fragment.Fragment.{Fragment}
 use Rattle.packet.specs.declared.start.Start.{Start}
 use Rattle.packet.proofs.Laws.Checks.{both}
 use Rattle.packet.proofs.Laws.Fragment.{data-inside, starts-is}
-use Rattle.cursor.specs.declared.picture.Picture.{Picture}
+use Rattle.picture.specs.declared.Picture.{Picture}
+use Rattle.picture.specs.declared.completeness.CompleteAnswer.the-variants.{Yes, No}
+use Rattle.picture.specs.Picture.{hasRoom, held}
+use Rattle.picture.specs.Completeness.{allFilled, completeness}
+use Rattle.picture.proofs.Laws.Completeness.{all-filled, filled-all}
+use Rattle.picture.proofs.Laws.Picture.{room-says, held-says}
 use Rattle.cursor.specs.declared.storing.StoreAnswer.the-variants.{Accepted}
-use Rattle.cursor.specs.declared.completeness.CompleteAnswer.the-variants.{Yes, No}
-use Rattle.cursor.specs.Picture.{hasRoom, held}
 use Rattle.cursor.specs.Judging.{ofOpened, sameStart, startDiffers, part, bytesDiffer, openedRules, judging}
 use Rattle.cursor.specs.Storing.{after, openedFor, clearedFor, imageAfter, marksAfter, withStart, pictureAfter, pointerAfter, outcome, taken}
-use Rattle.cursor.specs.Completeness.{allFilled, completeness}
 use Rattle.cursor.specs.Calls.{State, Call, fragment, other, isAccepted, answered, next, run, covers, RefusalKeeps}
 use Rattle.cursor.specs.DemandThree.{Whole, totalOf, OpenedAs, CutFrom, Taken, StartsHave, Given, covered, started, AllAccepted, SameFragment, Among, Within, SameEnd, DemandThree}
 use Rattle.cursor.proofs.Laws.Calls.{refusal-keeps}
-use Rattle.cursor.proofs.Laws.Completeness.{all-filled, filled-all}
-use Rattle.cursor.proofs.Laws.Judging.{room-says, held-says}
 use Rattle.cursor.proofs.Laws.Storing.{stored-well}
 
 -- One fragment that is cut from the whole picture.

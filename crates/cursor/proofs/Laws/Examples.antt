@@ -18,7 +18,7 @@ use Rattle.packet.specs.Rtp.{rtpHolds, unusedZero}
 use Rattle.packet.specs.Fragment.{takesType, headerOf, imageData, offsetOf, outside, fragmentFrame, fragmentChecks, startFragment, continuationFragment, fragmentOf}
 use Rattle.packet.specs.Continuation.{continuationOf, placeOf}
 use Rattle.packet.specs.Start.{startOf, noStart}
-use Rattle.cursor.specs.Picture.{hasRoom, held}
+use Rattle.picture.specs.Picture.{hasRoom, held}
 use Rattle.cursor.specs.Judging.{ofOpened, sameStart, startDiffers, bytesDiffer, openedRules, otherRules, judging}
 use Rattle.cursor.specs.Storing.{openedFor, clearedFor, imageAfter, marksAfter, withStart, pictureAfter, outcome, storeChecks, storeStatus, stored}
 use Rattle.cursor.specs.Calls.{next}

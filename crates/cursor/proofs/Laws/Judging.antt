@@ -1,30 +1,17 @@
 -- Laws of judging: an accepted fragment has room; the sequence number matters for another id alone, where it wraps. Assumes nothing.
-use Prim.Native.Nat.{ℕ, _≤_}
+use Prim.Native.Nat.{ℕ}
 use mathlib.Core.Path.{_≡_, refl}
-use mathlib.Core.Bool.{Bool, true, false, not, cond, _&&_, false≢true}
+use mathlib.Core.Bool.{Bool, true, false, not, cond, false≢true}
 use mathlib.Core.List.{List}
-use borrow.Author.Tests.{leb-true}
-use lib.Dec.{leb}
 use lib.ListN.{length}
 use Rattle.wire.specs.declared.status.Status.{Status}
 use Rattle.wire.specs.declared.status.Status.the-variants as status
 use Rattle.packet.specs.Checks.{firstOf, accepted}
 use Rattle.packet.specs.declared.fragment.Fragment.{Fragment}
-use Rattle.packet.proofs.Laws.Checks.{both}
-use Rattle.cursor.specs.declared.picture.Picture.{Picture}
-use Rattle.cursor.specs.Picture.{hasRoom, held}
+use Rattle.pointer.proofs.Laws.Pointer.{wrap-newer}
+use Rattle.picture.specs.declared.Picture.{Picture}
+use Rattle.picture.specs.Picture.{hasRoom}
 use Rattle.cursor.specs.Judging.{ofOpened, opens, startDiffers, openedRules, otherRules, judging, withSequence, SequenceIgnored, WrapOpens}
-use Rattle.cursor.proofs.Laws.Pointer.{wrap-newer}
-
-pub room-says : (t b m : ℕ) → hasRoom t b m ≡ true → (t ≤ b) × (t ≤ m)
-unfolding hasRoom
-room-says t b m h =
-    let r = both (leb t b) (leb t m) (both (leb t 262144) (leb t b && leb t m) h .1) in
-    (leb-true t b (r .0), leb-true t m (r .1))
-
-pub held-says : (q : Picture) (b m : ℕ) → held q b m ≡ true → q .opened ≡ true → hasRoom (q .total) b m ≡ true
-unfolding held
-held-says q b m h e = simp e at h
 
 no-room : (b : Bool) (s : Status) → accepted (cond (not b) status.NoRoom s) ≡ true → b ≡ true
 no-room true s h = refl

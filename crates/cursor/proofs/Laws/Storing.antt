@@ -13,10 +13,10 @@ use Rattle.packet.specs.Checks.{firstOf, accepted}
 use Rattle.packet.specs.Fragment.{isStart, imageData, fragmentChecks, fragmentOf, fragmentStatus, dataOf, readFragment, DataInside}
 use Rattle.packet.proofs.Laws.Checks.{first-append}
 use Rattle.packet.proofs.Laws.Fragment.{checks-refuse, read-refused, read-accepted, starts-is, data-inside}
-use Rattle.cursor.specs.declared.pointer.Pointer.{Pointer}
+use Rattle.pointer.specs.declared.Pointer.{Pointer}
+use Rattle.picture.specs.declared.Picture.{Picture}
+use Rattle.picture.specs.Picture.{held}
 use Rattle.cursor.specs.declared.storing.StoreAnswer.the-variants.{Accepted, Refused}
-use Rattle.cursor.specs.declared.picture.Picture.{Picture}
-use Rattle.cursor.specs.Picture.{held}
 use Rattle.cursor.specs.Judging.{judging, SequenceIgnored}
 use Rattle.cursor.specs.Storing.{after, openedFor, clearedFor, imageAfter, marksAfter, withStart, pictureAfter, pointerAfter, outcome, taken, storeChecks, storeStatus, stored, OldContinuationStored}
 use Rattle.cursor.proofs.Laws.Judging.{opened-same, sequence-ignored}

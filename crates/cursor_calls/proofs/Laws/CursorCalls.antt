@@ -10,13 +10,13 @@ use Rattle.wire.specs.declared.status.Status.{Status}
 use Rattle.wire.proofs.Laws.Bool.{by-test}
 use Rattle.packet.specs.Checks.{accepted}
 use Rattle.packet.specs.declared.fragment.Fragment.{Fragment}
-use Rattle.cursor.specs.declared.pointer.Pointer.{Pointer}
-use Rattle.cursor.specs.declared.picture.Picture.{Picture}
-use Rattle.cursor.specs.declared.pointer.PointerAnswer.{PointerAnswer}
-use Rattle.cursor.specs.declared.pointer.PointerAnswer.the-variants as position
+use Rattle.pointer.specs.declared.Pointer.{Pointer}
+use Rattle.pointer.specs.declared.PointerAnswer.{PointerAnswer}
+use Rattle.pointer.specs.declared.PointerAnswer.the-variants as position
+use Rattle.pointer.specs.Pointer.{positioned}
+use Rattle.picture.specs.declared.Picture.{Picture}
 use Rattle.cursor.specs.declared.storing.StoreAnswer.{StoreAnswer}
 use Rattle.cursor.specs.declared.storing.StoreAnswer.the-variants as store
-use Rattle.cursor.specs.Pointer.{positioned}
 use Rattle.cursor.specs.Storing as storing
 use Rattle.cursor.specs.Storing.{outcome, stored}
 use Rattle.cursor_records.specs.PointerRecord.{pointerOf}

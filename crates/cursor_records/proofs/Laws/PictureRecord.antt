@@ -5,7 +5,7 @@ use mathlib.Core.Bool.{Bool}
 use mathlib.Core.List.{List, [], _++_}
 use lib.ListN.{length}
 use Rattle.packet.specs.declared.start.Start.{Start}
-use Rattle.cursor.specs.declared.picture.Picture.{Picture}
+use Rattle.picture.specs.declared.Picture.{Picture}
 use Rattle.little_endian.specs.Layout.{flag, laid}
 use Rattle.little_endian.specs.Little.{bytes}
 use Rattle.cursor_records.specs.PictureRecord.{startBytes, pictureBytes, pictureOf, PictureReadsBack}

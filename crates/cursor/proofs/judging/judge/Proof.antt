@@ -6,8 +6,8 @@ use denote.Ref.{now}
 use borrow.Author.Tests.{not-false}
 use borrow.Author.Needs.{needs}
 use Rattle.packet.specs.Checks.{firstOf}
+use Rattle.picture.proofs.Laws.Picture.{room-says}
 use Rattle.cursor.specs.Judging.{judging}
-use Rattle.cursor.proofs.Laws.Judging.{room-says}
 use Rattle.cursor.proofs.judging.judge.Statement.{statement}
 use Rattle.cursor.proofs.judging.judge.Tie as tie
 

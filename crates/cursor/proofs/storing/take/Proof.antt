@@ -5,9 +5,10 @@ use lib.ListN.{length}
 use denote.Ref.{now}
 use borrow.Author.Tests.{eq-eqb, ne-eqb}
 use Rattle.packet.specs.Checks.{accepted}
+use Rattle.picture.proofs.Laws.Picture.{room-says}
 use Rattle.cursor.specs.Storing.{imageAfter, marksAfter, pictureAfter}
 use Rattle.cursor.specs.Assembling.{fragmentAssembled, assembledAs}
-use Rattle.cursor.proofs.Laws.Judging.{room-says, judged-room}
+use Rattle.cursor.proofs.Laws.Judging.{judged-room}
 use borrow.Author.Needs.{needs}
 use Rattle.cursor.proofs.storing.take.Statement.{statement}
 use Rattle.cursor.proofs.storing.take.Tie as tie

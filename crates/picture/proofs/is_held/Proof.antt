@@ -1,0 +1,19 @@
+-- Only an opened picture is asked for room. Assumes nothing.
+use borrow.Author.Needs.{needs}
+use Rattle.picture.specs.Picture.{held}
+use Rattle.picture.proofs.is_held.Statement.{statement}
+use Rattle.picture.proofs.is_held.Tie as tie
+
+has-room-requires : tie.Need-has-room-requires
+has-room-requires c κs = search needs
+
+returns : tie.Need-returns
+unfolding held
+returns c = simp (c .before .if1 .taken) (c .has-room .ensures)
+
+returns-2 : tie.Need-returns-2
+unfolding held
+returns-2 c = simp (c .if1 .left)
+
+pub is-held-spec : {M : Type 1} → statement M
+is-held-spec = tie.close (tie.spec has-room-requires returns returns-2)
