@@ -1,4 +1,6 @@
 -- Only an opened picture is asked for room. Assumes nothing.
+use mathlib.Core.Path.{_≡_}
+use mathlib.Core.Bool.{true, false}
 use borrow.Author.Needs.{needs}
 use Rattle.picture.specs.Picture.{held}
 use Rattle.picture.proofs.is_held.Statement.{statement}
@@ -9,11 +11,15 @@ has-room-requires c κs = search needs
 
 returns : tie.Need-returns
 unfolding held
-returns c = simp (c .before .if1 .taken) (c .has-room .ensures)
+returns c =
+    let opened : c .before .before .args .picture .opened ≡ true = c .before .if1 .taken in
+    simp opened (c .has-room .ensures)
 
 returns-2 : tie.Need-returns-2
 unfolding held
-returns-2 c = simp (c .if1 .left)
+returns-2 c =
+    let none : c .before .args .picture .opened ≡ false = c .if1 .left in
+    simp none
 
 pub is-held-spec : {M : Type 1} → statement M
 is-held-spec = tie.close (tie.spec has-room-requires returns returns-2)
