@@ -1,7 +1,7 @@
 // The calls of the session, for hosts.
 ghost use mathlib.Core.Path.{_≡_};
 ghost use lib.ListN.{length};
-ghost use Rattle.session.specs.Record.{freshSession};
+ghost use Rattle.session_table.specs.Record.{freshSession};
 ghost use Rattle.little_endian.specs.Layout.{laid};
 ghost use Rattle.session_record.specs.SessionRecord.{sessionBytes};
 ghost use Rattle.answers.specs.Fresh.{freshAnswer};

@@ -6,10 +6,10 @@ use lib.ListN.{replicate}
 use Rattle.wire.specs.Below.{allBelow}
 use Rattle.wire.specs.declared.status.Status.the-variants as status
 use Rattle.message.specs.declared.accessors.SourceId.{SourceId}
-use Rattle.session.specs.declared.record.State.the-variants as state
-use Rattle.session.specs.Record.{noSource, freshSession}
-use Rattle.session.specs.Source.{carried, otherSource, sameBytes}
-use Rattle.session.specs.Table.{isEvent}
+use Rattle.session_table.specs.declared.record.State.the-variants as state
+use Rattle.session_table.specs.Record.{noSource, freshSession}
+use Rattle.session_table.specs.Source.{carried, otherSource, sameBytes}
+use Rattle.session_table.specs.Table.{isEvent}
 use Rattle.session.specs.Step.{wantsPin, pinOrReady, optionsFrom, sourceAfter, accepted, refused, steppedTo, stepOf}
 use Rattle.session.specs.Runs.{Event, run, pinRight}
 

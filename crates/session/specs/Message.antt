@@ -6,7 +6,7 @@ use Rattle.message_reader.specs.declared.Answer.{Answer}
 use Rattle.message_reader.specs.declared.Answer.the-variants as answer
 use Rattle.message_reader.specs.Reading.{readMessage}
 use Rattle.message.specs.Accessors.{sourceOf, optionsOf}
-use Rattle.session.specs.declared.record.Session.{Session}
+use Rattle.session_table.specs.declared.record.Session.{Session}
 use Rattle.session.specs.declared.step.Stepped.{Stepped}
 use Rattle.session.specs.Step.{refused, stepOf}
 

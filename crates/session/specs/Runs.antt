@@ -5,10 +5,10 @@ use mathlib.Core.Bool.{Bool, false, cond, _&&_, _||_}
 use lib.Dec.{eqb}
 use Rattle.wire.specs.Status.{numberOf}
 use Rattle.message.specs.declared.accessors.SourceId.{SourceId}
-use Rattle.session.specs.declared.record.Session.{Session}
+use Rattle.session_table.specs.declared.record.Session.{Session}
+use Rattle.session_table.specs.Record.{noSource}
+use Rattle.session_table.specs.Source.{carried}
 use Rattle.session.specs.declared.step.Stepped.{Stepped}
-use Rattle.session.specs.Record.{noSource}
-use Rattle.session.specs.Source.{carried}
 use Rattle.session.specs.Step.{stepOf}
 
 -- what comes with an event: its number, a Source ID, which may be absent, and the option byte

@@ -5,15 +5,15 @@ use lib.Dec.{eqb}
 use Rattle.wire.specs.declared.status.Status.{Status}
 use Rattle.wire.specs.declared.status.Status.the-variants as status
 use Rattle.message.specs.declared.accessors.SourceId.{SourceId}
-use Rattle.session.specs.declared.record.State.{State}
-use Rattle.session.specs.declared.record.State.the-variants as state
-use Rattle.session.specs.declared.record.Session.{Session}
-use Rattle.session.specs.declared.table.Next.{Next}
-use Rattle.session.specs.declared.table.Next.the-variants.{NoEvent, Unexpected, CheckPin, PinOrReady, ToHandshake, ToReadyWait, ToProjecting, ToClosed}
+use Rattle.session_table.specs.declared.record.State.{State}
+use Rattle.session_table.specs.declared.record.State.the-variants as state
+use Rattle.session_table.specs.declared.record.Session.{Session}
+use Rattle.session_table.specs.declared.table.Next.{Next}
+use Rattle.session_table.specs.declared.table.Next.the-variants.{NoEvent, Unexpected, CheckPin, PinOrReady, ToHandshake, ToReadyWait, ToProjecting, ToClosed}
+use Rattle.session_table.specs.Source.{carried, otherSource}
+use Rattle.session_table.specs.Table.{isEvent, table}
 use Rattle.session.specs.declared.step.Answer.{Answer}
 use Rattle.session.specs.declared.step.Stepped.{Stepped}
-use Rattle.session.specs.Source.{carried, otherSource}
-use Rattle.session.specs.Table.{isEvent, table}
 
 -- the PIN option: bit 02 hex of the option byte (001 section 2.2.7.5, SinkDisplaysPin)
 unfoldable pub wantsPin : ℕ → Bool

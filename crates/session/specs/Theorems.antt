@@ -4,11 +4,11 @@ use mathlib.Core.List.{List}
 use mathlib.Core.Logic.{_⊎_}
 use mathlib.Core.Bool.{true, false}
 use Rattle.wire.specs.declared.status.Status.the-variants as status
-use Rattle.session.specs.declared.record.State.the-variants as state
-use Rattle.session.specs.declared.record.Session.{Session}
-use Rattle.session.specs.Record.{freshSession, isOpen}
-use Rattle.session.specs.Source.{carried, sameBytes}
-use Rattle.session.specs.Table.{isEvent}
+use Rattle.session_table.specs.declared.record.State.the-variants as state
+use Rattle.session_table.specs.declared.record.Session.{Session}
+use Rattle.session_table.specs.Record.{freshSession, isOpen}
+use Rattle.session_table.specs.Source.{carried, sameBytes}
+use Rattle.session_table.specs.Table.{isEvent}
 use Rattle.session.specs.Step.{wantsPin, closed, refused}
 use Rattle.session.specs.Runs.{Event, stepped, next, run, isAccepted, firstSource, pinRight}
 

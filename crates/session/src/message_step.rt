@@ -1,11 +1,11 @@
 // A step by the bytes of one message.
 ghost use mathlib.Core.Path.{_≡_};
 ghost use Rattle.session.specs.Message.{unread, onMessage};
-use crate::record::Session;
 use crate::step;
 use crate::step::Stepped;
 use message::accessors;
 use message_reader::Answer;
+use session_table::record::Session;
 use wire::status::Status;
 
 // A message that the reader refused: its refusal is passed on with its place, and the session stays. (An accepted one is answered as

@@ -1,12 +1,12 @@
 // One step of the session, by value.
 ghost use mathlib.Core.Path.{_≡_};
 ghost use Rattle.session.specs.Step.{pinOrReady, optionsFrom, optionsAfter, sourceAfter, accepted, refused, closed, follow, stepOf};
-use crate::record::Session;
-use crate::record::State;
-use crate::source;
-use crate::table;
-use crate::table::Next;
 use message::accessors::SourceId;
+use session_table::record::Session;
+use session_table::record::State;
+use session_table::source;
+use session_table::table;
+use session_table::table::Next;
 use wire::status::Status;
 
 // What a step answers.

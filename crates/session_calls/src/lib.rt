@@ -1,7 +1,7 @@
 // The calls of the session over lent records. Crate ashlarsilk exports each, and says there in words what a host gets.
 ghost use mathlib.Core.Path.{_≡_};
 ghost use lib.ListN.{length};
-ghost use Rattle.session.specs.Record.{freshSession};
+ghost use Rattle.session_table.specs.Record.{freshSession};
 ghost use Rattle.little_endian.specs.Layout.{laid};
 ghost use Rattle.session_record.specs.SessionRecord.{sessionBytes};
 ghost use Rattle.answers.specs.Fresh.{freshAnswer};
@@ -9,10 +9,10 @@ ghost use Rattle.session_calls.specs.SessionCalls.{after, shortStep, ans
 use answers::Step;
 use message::accessors::SourceId;
 use session::message_step;
-use session::record::Session;
 use session::step;
 use session::step::Answer;
 use session::step::Stepped;
+use session_table::record::Session;
 use wire::number::put_u8;
 use wire::status;
 use wire::status::Status;

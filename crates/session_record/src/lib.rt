@@ -15,8 +15,8 @@ use little_endian::put_u8;
 use little_endian::u8_at;
 use message::accessors::SourceId;
 use scan::bytes;
-use session::record::Session;
-use session::record::State;
+use session_table::record::Session;
+use session_table::record::State;
 
 pub const LENGTH: usize = 19;
 

@@ -4,10 +4,10 @@
 
 use libc::STDOUT_FILENO;
 use message::accessors::SourceId;
-use session::record::Session;
-use session::record::State;
 use session::step;
 use session::step::Stepped;
+use session_table::record::Session;
+use session_table::record::State;
 use wire::status;
 
 fn print(text: &[u8]) {

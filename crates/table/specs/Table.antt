@@ -18,12 +18,12 @@ use Rattle.message.specs.Rules.{rolesOf, roleOf, lengthsOf, lengthOk, knownComm
 use Rattle.message.specs.Record.{fieldOf, withField, emptyOf}
 use Rattle.message_reader.specs.Reading.{headerOf, hasNeeded, isComplete, tlvAt, lastOf, tlvsFrom, readMessage}
 use Rattle.message.specs.Accessors.{portOf}
-use Rattle.session.specs.declared.record.State.{State}
-use Rattle.session.specs.declared.record.State.the-variants as state
+use Rattle.session_table.specs.declared.record.State.{State}
+use Rattle.session_table.specs.declared.record.State.the-variants as state
+use Rattle.session_table.specs.Record.{noSource, freshSession}
+use Rattle.session_table.specs.Source.{carried, otherSource}
+use Rattle.session_table.specs.Table.{isEvent}
 use Rattle.session.specs.declared.step.Stepped.{Stepped}
-use Rattle.session.specs.Record.{noSource, freshSession}
-use Rattle.session.specs.Source.{carried, otherSource}
-use Rattle.session.specs.Table.{isEvent}
 use Rattle.session.specs.Step.{optionsFrom, sourceAfter, accepted, stepOf}
 use Rattle.packet.specs.declared.position.PositionAnswer.{PositionAnswer}
 use Rattle.packet.specs.declared.position.PositionAnswer.the-variants as positioned

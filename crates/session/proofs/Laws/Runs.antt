@@ -10,20 +10,20 @@ use Rattle.wire.specs.declared.status.Status.the-variants as status
 use Rattle.wire.specs.Status.{numberOf}
 use Rattle.wire.proofs.Laws.Bool.{impossible, either, not-both, both}
 use Rattle.message.specs.declared.accessors.SourceId.{SourceId}
-use Rattle.session.specs.declared.record.State.{State}
-use Rattle.session.specs.declared.record.State.the-variants as state
-use Rattle.session.specs.declared.record.Session.{Session}
+use Rattle.session_table.specs.declared.record.State.{State}
+use Rattle.session_table.specs.declared.record.State.the-variants as state
+use Rattle.session_table.specs.declared.record.Session.{Session}
+use Rattle.session_table.specs.declared.table.Next.{Next}
+use Rattle.session_table.specs.declared.table.Next.the-variants.{NoEvent, Unexpected, CheckPin, PinOrReady, ToHandshake, ToReadyWait, ToProjecting, ToClosed}
+use Rattle.session_table.specs.Record.{noSource, freshSession, isOpen}
+use Rattle.session_table.specs.Source.{carried, otherSource}
+use Rattle.session_table.specs.Table.{table, isEvent}
+use Rattle.session_table.proofs.Laws.Table.{implied, isProjecting, stateAfter, isTaken, pinAfter, sound, closed-row, byReady, by-ready, staysSound, stays-sound}
 use Rattle.session.specs.declared.step.Stepped.{Stepped}
-use Rattle.session.specs.declared.table.Next.{Next}
-use Rattle.session.specs.declared.table.Next.the-variants.{NoEvent, Unexpected, CheckPin, PinOrReady, ToHandshake, ToReadyWait, ToProjecting, ToClosed}
-use Rattle.session.specs.Record.{noSource, freshSession, isOpen}
-use Rattle.session.specs.Source.{carried, otherSource}
-use Rattle.session.specs.Table.{table, isEvent}
 use Rattle.session.specs.Step.{wantsPin, pinOrReady, optionsFrom, optionsAfter, sourceAfter, accepted, refused, closed, follow, stepOf}
 use Rattle.session.specs.Runs.{Event, stepped, next, run, isAccepted, firstSource, pinRight}
 use Rattle.session.specs.Theorems.{ClosedRefuses, ClosedForGood, RefusalKeeps, FirstIsKept, KeptForGood, OtherChangesNothing, ReachedByReady, PinBeforeProjecting}
 use Rattle.session.proofs.Laws.Step.{step-other}
-use Rattle.session.proofs.Laws.Table.{implied, isProjecting, stateAfter, isTaken, pinAfter, sound, closed-row, byReady, by-ready, staysSound, stays-sound}
 
 and-true : (b : Bool) → b && true ≡ b
 and-true true = refl

@@ -8,11 +8,11 @@ use lib.Dec.{leb}
 use Rattle.wire.proofs.Laws.Bool.{both}
 use Rattle.wire.specs.declared.status.Status.the-variants as status
 use Rattle.message.specs.declared.accessors.SourceId.{SourceId}
-use Rattle.session.specs.declared.record.Session.{Session}
-use Rattle.session.specs.declared.table.Next.the-variants as next
-use Rattle.session.specs.Record.{isOpen}
-use Rattle.session.specs.Source.{sameBytes, carried, otherSource}
-use Rattle.session.specs.Table.{table, isEvent, expectedOf}
+use Rattle.session_table.specs.declared.record.Session.{Session}
+use Rattle.session_table.specs.declared.table.Next.the-variants as next
+use Rattle.session_table.specs.Record.{isOpen}
+use Rattle.session_table.specs.Source.{sameBytes, carried, otherSource}
+use Rattle.session_table.specs.Table.{table, isEvent, expectedOf}
 use Rattle.session.specs.Step.{refused, follow, stepOf}
 
 -- a message that carries a Source ID is one of the six commands

@@ -14,9 +14,9 @@ use Rattle.message_reader.specs.declared.Answer.{Answer}
 use Rattle.message_reader.specs.declared.Answer.the-variants as reader
 use Rattle.message_reader.specs.Reading.{readMessage}
 use Rattle.message.specs.Accessors.{sourceOf, optionsOf}
-use Rattle.session.specs.declared.record.Session.{Session}
+use Rattle.session_table.specs.declared.record.Session.{Session}
+use Rattle.session_table.specs.Record.{isOpen}
 use Rattle.session.specs.declared.step.Stepped.{Stepped}
-use Rattle.session.specs.Record.{isOpen}
 use Rattle.session.specs.Step.{closed, refused}
 use Rattle.session.specs.Runs.{Event, stepped, next}
 use Rattle.session.proofs.Laws.Runs.{refusal-keeps}

@@ -7,9 +7,9 @@ use lib.ListN.{length, drop, replicate, length-append, drop-of-length-le}
 use lib.Seq.{take-at}
 use Rattle.wire.specs.Splice.{splice}
 use Rattle.scan.specs.Bytes.{copied}
-use Rattle.session.specs.declared.record.State.{State}
-use Rattle.session.specs.declared.record.State.the-variants as state
-use Rattle.session.specs.declared.record.Session.{Session}
+use Rattle.session_table.specs.declared.record.State.{State}
+use Rattle.session_table.specs.declared.record.State.the-variants as state
+use Rattle.session_table.specs.declared.record.Session.{Session}
 use Rattle.little_endian.specs.Layout.{flag, laid}
 use Rattle.little_endian.specs.Little.{bytes}
 use Rattle.session_record.specs.SessionRecord.{stateOf, stateNumber, idAt, sessionBytes, sessionOf, SessionReadsBack}

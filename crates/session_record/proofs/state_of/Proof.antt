@@ -4,7 +4,7 @@ use mathlib.Core.Path.{_≡_, sym}
 use mathlib.Core.List.{[], _∷_}
 use native.Mathlib.Omega.{arith}
 use lib.ListN.{List·getD-eq-default}
-use Rattle.session.specs.declared.record.State.the-variants as state
+use Rattle.session_table.specs.declared.record.State.the-variants as state
 use Rattle.session_record.specs.SessionRecord.{stateOf}
 use borrow.Author.Needs.{needs}
 use Rattle.session_record.proofs.state_of.Statement.{statement}

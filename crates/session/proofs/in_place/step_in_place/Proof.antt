@@ -43,12 +43,12 @@ use denote.Exit.{yes}
 use Rattle.message.specs.declared.accessors.SourceId.{SourceId}
 use Rattle.message.proofs.accessors.SourceId as I
 use Rattle.message.proofs.accessors.SourceId.Laws as I′
-use Rattle.session.specs.declared.record.Session.{Session}
+use Rattle.session_table.specs.declared.record.Session.{Session}
+use Rattle.session_table.proofs.record.Session as S
+use Rattle.session_table.proofs.record.Session.Laws as S′
 use Rattle.session.specs.declared.step.Answer.{Answer}
 use Rattle.session.specs.declared.step.Stepped.{Stepped}
 use Rattle.session.specs.Step.{stepOf}
-use Rattle.session.proofs.record.Session as S
-use Rattle.session.proofs.record.Session.Laws as S′
 use Rattle.session.proofs.step.Answer as An
 use Rattle.session.proofs.step.Answer.Laws as An′
 use Rattle.session.proofs.step.Stepped as St

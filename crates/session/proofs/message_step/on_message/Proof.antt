@@ -7,7 +7,7 @@ use denote.Ref.{now}
 use Rattle.message_reader.specs.declared.Answer.{Answer}
 use Rattle.message_reader.specs.declared.Answer.the-variants as answer
 use Rattle.message_reader.specs.Reading.{readMessage}
-use Rattle.session.specs.declared.record.Session.{Session}
+use Rattle.session_table.specs.declared.record.Session.{Session}
 use Rattle.session.specs.declared.step.Stepped.{Stepped}
 use Rattle.session.specs.Message.{unread, afterRead, onMessage}
 use Rattle.session.proofs.message_step.on_message.Statement.{statement}

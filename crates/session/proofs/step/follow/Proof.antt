@@ -3,9 +3,9 @@ use Prim.Native.Nat.{ℕ}
 use mathlib.Core.Path.{_≡_, sym, ap, _∙_}
 use borrow.Author.Needs.{needs}
 use Rattle.message.specs.declared.accessors.SourceId.{SourceId}
-use Rattle.session.specs.declared.record.Session.{Session}
+use Rattle.session_table.specs.declared.record.Session.{Session}
+use Rattle.session_table.specs.declared.table.Next.{Next}
 use Rattle.session.specs.declared.step.Stepped.{Stepped}
-use Rattle.session.specs.declared.table.Next.{Next}
 use Rattle.session.specs.Step.{follow}
 use Rattle.session.proofs.step.follow.Statement.{statement}
 use Rattle.session.proofs.step.follow.Tie as tie

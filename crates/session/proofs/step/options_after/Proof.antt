@@ -1,7 +1,7 @@
 -- Only Waiting looks at the event. Assumes nothing.
 use mathlib.Core.Path.{sym, ap, _∙_}
 use borrow.Author.Needs.{needs}
-use Rattle.session.specs.declared.record.State.{State}
+use Rattle.session_table.specs.declared.record.State.{State}
 use Rattle.session.specs.Step.{optionsAfter}
 use Rattle.session.proofs.step.options_after.Statement.{statement}
 use Rattle.session.proofs.step.options_after.Tie as tie

@@ -1,6 +1,6 @@
 // The table of the session: what an event does in a state. Events 1 to 6 are the commands of messages, 7 to 10 are the host's.
 ghost use mathlib.Core.Path.{_≡_};
-ghost use Rattle.session.specs.Table.{table, expectedOf};
+ghost use Rattle.session_table.specs.Table.{table, expectedOf};
 use crate::record::State;
 
 // What an event does.
@@ -126,7 +126,7 @@ fn pin_wrong(state: State) -> Next
 }
 
 // What the event does in the state.
-pub(crate) fn expected(event: u8, state: State) -> Next
+pub fn expected(event: u8, state: State) -> Next
     ensures { λ r. ⌜ r ≡ expectedOf event state ⌝ }
 {
     match event {

@@ -2,9 +2,9 @@
 use mathlib.Core.Bool.{Bool, true, false}
 use lib.ListN.{replicate}
 use Rattle.message.specs.declared.accessors.SourceId.{SourceId}
-use Rattle.session.specs.declared.record.State.{State}
-use Rattle.session.specs.declared.record.State.the-variants as state
-use Rattle.session.specs.declared.record.Session.{Session}
+use Rattle.session_table.specs.declared.record.State.{State}
+use Rattle.session_table.specs.declared.record.State.the-variants as state
+use Rattle.session_table.specs.declared.record.Session.{Session}
 
 abbrev pub noSource : SourceId
 noSource = record { present = false; bytes = replicate 16 0 }

@@ -1,9 +1,9 @@
 -- The four tests of `otherSource`, in its order. Assumes nothing.
 use borrow.Author.Needs.{needs}
 use borrow.Author.Tests.{not-true, not-false}
-use Rattle.session.specs.Source.{otherSource}
-use Rattle.session.proofs.source.is_other.Statement.{statement}
-use Rattle.session.proofs.source.is_other.Tie as tie
+use Rattle.session_table.specs.Source.{otherSource}
+use Rattle.session_table.proofs.source.is_other.Statement.{statement}
+use Rattle.session_table.proofs.source.is_other.Tie as tie
 
 is-open-requires : tie.Need-is-open-requires
 is-open-requires c κs = search needs

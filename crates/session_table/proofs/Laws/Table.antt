@@ -8,12 +8,12 @@ use lib.Dec.{eqb, leb}
 use Rattle.wire.specs.Below.{allBelow}
 use Rattle.wire.proofs.Laws.Below.{below-all}
 use Rattle.wire.proofs.Laws.Bool.{impossible, both}
-use Rattle.session.specs.declared.record.State.{State}
-use Rattle.session.specs.declared.record.State.the-variants as state
-use Rattle.session.specs.declared.table.Next.{Next}
-use Rattle.session.specs.declared.table.Next.the-variants.{NoEvent, Unexpected, CheckPin, PinOrReady, ToHandshake, ToReadyWait, ToProjecting, ToClosed}
-use Rattle.session.specs.Record.{isOpen}
-use Rattle.session.specs.Table.{table, isEvent}
+use Rattle.session_table.specs.declared.record.State.{State}
+use Rattle.session_table.specs.declared.record.State.the-variants as state
+use Rattle.session_table.specs.declared.table.Next.{Next}
+use Rattle.session_table.specs.declared.table.Next.the-variants.{NoEvent, Unexpected, CheckPin, PinOrReady, ToHandshake, ToReadyWait, ToProjecting, ToClosed}
+use Rattle.session_table.specs.Record.{isOpen}
+use Rattle.session_table.specs.Table.{table, isEvent}
 
 -- whether a test holds of both answers, and of all states
 unfoldable allBools : (Bool → Bool) → Bool

@@ -1,6 +1,6 @@
 // Which source a message comes from.
 ghost use mathlib.Core.Path.{_≡_};
-ghost use Rattle.session.specs.Source.{sameBytes, carried, otherSource};
+ghost use Rattle.session_table.specs.Source.{sameBytes, carried, otherSource};
 use crate::record::Session;
 use crate::record::is_open;
 use message::accessors::SourceId;
@@ -20,7 +20,7 @@ pub(crate) fn same(a: &[u8; 16], b: &[u8; 16]) -> bool
 }
 
 // Whether the event is a message that carries a Source ID: the commands are 1 to 6.
-pub(crate) fn carries(event: u8, source: SourceId) -> bool
+pub fn carries(event: u8, source: SourceId) -> bool
     ensures { λ r. ⌜ r ≡ carried event source ⌝ }
 {
     if !source.present {
@@ -33,7 +33,7 @@ pub(crate) fn carries(event: u8, source: SourceId) -> bool
 }
 
 // Whether, in an open state, the event is a message that carries another Source ID than the kept one.
-pub(crate) fn is_other(session: Session, event: u8, source: SourceId) -> bool
+pub fn is_other(session: Session, event: u8, source: SourceId) -> bool
     ensures { λ r. ⌜ r ≡ otherSource session event source ⌝ }
 {
     let state = session.state;

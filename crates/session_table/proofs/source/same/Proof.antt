@@ -7,9 +7,9 @@ use borrow.Author.Tests.{eq-eqb, ne-eqb}
 use denote.Ref.{now}
 use Rattle.wire.specs.Below.{allBelow}
 use Rattle.wire.proofs.Laws.Below.{below-next, one-below}
-use Rattle.session.specs.Source.{sameAt, sameBytes}
-use Rattle.session.proofs.source.same.Statement.{statement}
-use Rattle.session.proofs.source.same.Tie as tie
+use Rattle.session_table.specs.Source.{sameAt, sameBytes}
+use Rattle.session_table.proofs.source.same.Statement.{statement}
+use Rattle.session_table.proofs.source.same.Tie as tie
 
 abbrev Inv-loop : tie.InvT-loop
 Inv-loop a b k₀ k = (k ≤ 16) × (allBelow k (sameAt a b) ≡ true)

@@ -4,10 +4,10 @@ use mathlib.Core.List.{List, [], _∷_}
 use mathlib.Core.Bool.{Bool, cond, _&&_}
 use lib.ListN.{getD}
 use lib.Dec.{leb}
-use Rattle.session.specs.declared.record.State.{State}
-use Rattle.session.specs.declared.record.State.the-variants as state
-use Rattle.session.specs.declared.table.Next.{Next}
-use Rattle.session.specs.declared.table.Next.the-variants.{NoEvent, Unexpected, CheckPin, PinOrReady, ToHandshake, ToReadyWait, ToProjecting, ToClosed}
+use Rattle.session_table.specs.declared.record.State.{State}
+use Rattle.session_table.specs.declared.record.State.the-variants as state
+use Rattle.session_table.specs.declared.table.Next.{Next}
+use Rattle.session_table.specs.declared.table.Next.the-variants.{NoEvent, Unexpected, CheckPin, PinOrReady, ToHandshake, ToReadyWait, ToProjecting, ToClosed}
 
 -- everything else: 14
 abbrev other : Next

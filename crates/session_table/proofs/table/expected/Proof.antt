@@ -8,13 +8,13 @@ use native.Mathlib.Decide.{decLt}
 use lib.Dec.{leb}
 use borrow.Author.Needs.{needs}
 use borrow.Author.Tests.{le-leb, lt-leb}
-use Rattle.session.specs.declared.record.State.{State}
-use Rattle.session.specs.declared.record.State.the-variants as state
-use Rattle.session.specs.declared.table.Next.{Next}
-use Rattle.session.specs.declared.table.Next.the-variants.{NoEvent, Unexpected}
-use Rattle.session.specs.Table.{table, isEvent, expectedOf}
-use Rattle.session.proofs.table.expected.Statement.{statement}
-use Rattle.session.proofs.table.expected.Tie as tie
+use Rattle.session_table.specs.declared.record.State.{State}
+use Rattle.session_table.specs.declared.record.State.the-variants as state
+use Rattle.session_table.specs.declared.table.Next.{Next}
+use Rattle.session_table.specs.declared.table.Next.the-variants.{NoEvent, Unexpected}
+use Rattle.session_table.specs.Table.{table, isEvent, expectedOf}
+use Rattle.session_table.proofs.table.expected.Statement.{statement}
+use Rattle.session_table.proofs.table.expected.Tie as tie
 
 entry : {r : Next} (event k : ℕ) (s : State) → event ≡ k → leb 1 k && leb k 10 ≡ true → r ≡ table s k → r ≡ expectedOf event s
 unfolding expectedOf isEvent

@@ -1,8 +1,8 @@
 -- The three tests of `carried`. Assumes nothing.
 use borrow.Author.Tests.{not-true, not-false, lt-leb, le-leb}
-use Rattle.session.specs.Source.{carried}
-use Rattle.session.proofs.source.carries.Statement.{statement}
-use Rattle.session.proofs.source.carries.Tie as tie
+use Rattle.session_table.specs.Source.{carried}
+use Rattle.session_table.proofs.source.carries.Statement.{statement}
+use Rattle.session_table.proofs.source.carries.Tie as tie
 
 returns : tie.Need-returns
 unfolding carried

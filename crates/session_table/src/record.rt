@@ -1,6 +1,6 @@
 // The session record that a host keeps for a connection.
 ghost use mathlib.Core.Path.{_≡_};
-ghost use Rattle.session.specs.Record.{freshSession, isOpen};
+ghost use Rattle.session_table.specs.Record.{freshSession, isOpen};
 use message::accessors::SourceId;
 
 pub enum State {

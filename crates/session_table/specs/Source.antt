@@ -6,8 +6,8 @@ use lib.ListN.{getD}
 use lib.Dec.{leb, eqb}
 use Rattle.wire.specs.Below.{allBelow}
 use Rattle.message.specs.declared.accessors.SourceId.{SourceId}
-use Rattle.session.specs.declared.record.Session.{Session}
-use Rattle.session.specs.Record.{isOpen}
+use Rattle.session_table.specs.declared.record.Session.{Session}
+use Rattle.session_table.specs.Record.{isOpen}
 
 -- a Source ID has 16 bytes
 abbrev pub sameAt : List ℕ → List ℕ → ℕ → Bool
