@@ -6,11 +6,11 @@ use Rattle.message.proofs.rules.known_command.Tie as tie
 
 returns : tie.Need-returns
 unfolding knownCommand
-returns c = simp (lt-leb _ _ (c .if1 .taken))
+returns c = simp (lt-leb 1 _ (c .if1 .taken))
 
 returns-2 : tie.Need-returns-2
 unfolding knownCommand
-returns-2 c = simp (le-leb _ _ (c .if1 .left))
+returns-2 c = simp (le-leb 1 _ (c .if1 .left))
 
 pub known-command-spec : {M : Type 1} → statement M
 known-command-spec = tie.close (tie.spec returns returns-2)
