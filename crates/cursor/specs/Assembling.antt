@@ -5,8 +5,8 @@ use mathlib.Core.Bool.{cond}
 use mathlib.Core.List.{List}
 use Rattle.wire.specs.declared.status.Status.{Status}
 use Rattle.packet.specs.Checks.{firstOf, accepted}
-use Rattle.packet.specs.Fragment.{fragmentOf, dataOf}
-use Rattle.packet.specs.declared.fragment.Fragment.{Fragment}
+use Rattle.fragment.specs.Fragment.{fragmentOf, dataOf}
+use Rattle.fragment.specs.declared.Fragment.{Fragment}
 use Rattle.picture.specs.declared.Picture.{Picture}
 use Rattle.cursor.specs.declared.storing.Assembled.{Assembled}
 use Rattle.cursor.specs.Judging.{judging}

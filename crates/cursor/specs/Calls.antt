@@ -7,7 +7,7 @@ use mathlib.Core.List.{List, [], _∷_}
 use lib.Dec.{leb, ltb}
 use lib.ListN.{length, getD}
 use Rattle.wire.specs.Sequence.{isNewer}
-use Rattle.packet.specs.Fragment.{fragmentOf, dataOf}
+use Rattle.fragment.specs.Fragment.{fragmentOf, dataOf}
 use Rattle.pointer.specs.declared.Pointer.{Pointer}
 use Rattle.picture.specs.declared.Picture.{Picture}
 use Rattle.cursor.specs.declared.storing.StoreAnswer.{StoreAnswer}

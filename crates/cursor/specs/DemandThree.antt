@@ -7,8 +7,8 @@ use mathlib.Core.List.{List, [], _∷_}
 use lib.ListN.{length, getD}
 use Rattle.scan.specs.Empty.{filledAt}
 use Rattle.packet.specs.Checks.{accepted}
-use Rattle.packet.specs.Fragment.{isStart, fragmentOf, fragmentStatus, dataOf}
-use Rattle.packet.specs.declared.start.Start.{Start}
+use Rattle.fragment.specs.Fragment.{isStart, fragmentOf, fragmentStatus, dataOf}
+use Rattle.fragment.specs.declared.start.Start.{Start}
 use Rattle.picture.specs.declared.completeness.CompleteAnswer.the-variants.{Yes}
 use Rattle.picture.specs.Picture.{held}
 use Rattle.picture.specs.Completeness.{completeness}

@@ -17,9 +17,9 @@ use Rattle.packet.specs.Checks.{firstOf}
 use Rattle.packet.specs.Frame.{frameChecks}
 use Rattle.packet.specs.Rtp.{rtpHolds, unusedZero}
 use Rattle.packet.specs.Position.{positionChecks, positionOf}
-use Rattle.packet.specs.Fragment.{takesType, headerOf, imageData, offsetOf, outside, fragmentFrame, fragmentChecks, startFragment, continuationFragment, fragmentOf}
-use Rattle.packet.specs.Continuation.{continuationOf, placeOf}
-use Rattle.packet.specs.Start.{startOf, noStart}
+use Rattle.fragment.specs.Fragment.{takesType, headerOf, imageData, offsetOf, outside, fragmentFrame, fragmentChecks, startFragment, continuationFragment, fragmentOf}
+use Rattle.fragment.specs.Continuation.{continuationOf, placeOf}
+use Rattle.fragment.specs.Start.{startOf, noStart}
 use Rattle.pointer.specs.declared.PointerAnswer.the-variants as pointer
 use Rattle.pointer.specs.Pointer.{freshPointer, movedTo, positionStatus, positioned}
 use Rattle.picture.specs.declared.completeness.CompleteAnswer.the-variants as complete

@@ -12,8 +12,8 @@ use Rattle.wire.specs.Sequence.{isNewer}
 use Rattle.wire.specs.declared.status.Status.the-variants as status
 use Rattle.scan.specs.Conflict.{conflictIn}
 use Rattle.packet.specs.Checks.{Check, refuse, firstOf}
-use Rattle.packet.specs.declared.fragment.Fragment.{Fragment}
-use Rattle.packet.specs.declared.start.Start.{Start}
+use Rattle.fragment.specs.declared.Fragment.{Fragment}
+use Rattle.fragment.specs.declared.start.Start.{Start}
 use Rattle.picture.specs.declared.Picture.{Picture}
 use Rattle.picture.specs.Picture.{hasRoom}
 

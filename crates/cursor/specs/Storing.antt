@@ -9,9 +9,9 @@ use Rattle.wire.specs.Splice.{splice}
 use Rattle.wire.specs.declared.status.Status.{Status}
 use Rattle.wire.specs.declared.status.Status.the-variants as status
 use Rattle.packet.specs.Checks.{Check, refuse, firstOf, accepted}
-use Rattle.packet.specs.Fragment.{isStart, fragmentChecks, fragmentOf, dataOf}
-use Rattle.packet.specs.Start.{noStart}
-use Rattle.packet.specs.declared.fragment.Fragment.{Fragment}
+use Rattle.fragment.specs.Fragment.{isStart, fragmentChecks, fragmentOf, dataOf}
+use Rattle.fragment.specs.Start.{noStart}
+use Rattle.fragment.specs.declared.Fragment.{Fragment}
 use Rattle.pointer.specs.declared.Pointer.{Pointer}
 use Rattle.pointer.specs.Pointer.{movedTo}
 use Rattle.picture.specs.declared.Picture.{Picture}

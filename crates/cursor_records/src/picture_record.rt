@@ -15,13 +15,13 @@ ghost use lib.ListN.{length};
 ghost use Rattle.wire.specs.Splice.{splice};
 ghost use Rattle.little_endian.specs.Layout.{laid};
 ghost use Rattle.cursor_records.specs.PictureRecord.{startBytes, pictureBytes, pictureOf};
+use fragment::start::Start;
 use little_endian::put_u8;
 use little_endian::put_u16;
 use little_endian::put_u32;
 use little_endian::u8_at;
 use little_endian::u16_at;
 use little_endian::u32_at;
-use packet::start::Start;
 use picture::Picture;
 
 pub const LENGTH: usize = 15;

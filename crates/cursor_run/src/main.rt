@@ -2,8 +2,8 @@
 // stands in the records, in five bytes of the picture and in the marks beside them. The packets are P9 and P10 of 01, those of 003 section 4,
 // and orders, repeats and refusals of a small picture.
 use cursor::storing::StoreAnswer;
+use fragment::start::Start;
 use libc::STDOUT_FILENO;
-use packet::start::Start;
 use picture::Picture;
 use picture::completeness::CompleteAnswer;
 use pointer::Pointer;

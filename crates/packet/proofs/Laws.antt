@@ -1,4 +1,2 @@
 pub mod Checks
-pub mod Fragment
 pub mod Position
-pub mod Parsing

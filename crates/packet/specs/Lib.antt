@@ -1,9 +1,5 @@
 pub mod Checks
-pub mod Continuation
 pub mod Examples
-pub mod Fragment
 pub mod Frame
-pub mod Parsing
 pub mod Position
 pub mod Rtp
-pub mod Start

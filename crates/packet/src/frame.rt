@@ -1,4 +1,4 @@
 // What packets of every type share.
 
 // The least bytes of a packet: the RTP header, MsgType and PacketMsgSize.
-pub(crate) const LEAST: usize = 15;
+pub const LEAST: usize = 15;

@@ -5,9 +5,8 @@
 //      12      1  MsgType
 //      13      2  PacketMsgSize, counted from MsgType
 //      15         the fields of the packet's type
-pub mod continuation;
-pub mod fragment;
-mod frame;
+//
+// Positions are read here, starts and continuations in crate fragment.
+pub mod frame;
 pub mod position;
 pub mod rtp;
-pub mod start;

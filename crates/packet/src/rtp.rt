@@ -27,7 +27,7 @@ fn unused_zero(packet: &[u8]) -> bool
 }
 
 // Whether the packet has the header of a cursor packet. After the test of its length no byte of it needs one.
-pub(crate) fn holds(packet: &[u8]) -> bool
+pub fn holds(packet: &[u8]) -> bool
     ensures { λ r. ⌜ r ≡ rtpHolds (now (packet .entry)) ⌝ }
 {
     if packet.len() < Rtp::HEADER {
@@ -40,7 +40,7 @@ pub(crate) fn holds(packet: &[u8]) -> bool
 }
 
 // The header's field.
-pub(crate) fn read(packet: &[u8]) -> Rtp
+pub fn read(packet: &[u8]) -> Rtp
     ensures { λ r. ⌜ r ≡ rtpOf (now (packet .entry)) ⌝ }
 {
     Rtp {

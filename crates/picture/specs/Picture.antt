@@ -2,7 +2,7 @@
 use Prim.Native.Nat.{ℕ}
 use mathlib.Core.Bool.{Bool, true, false, cond, _&&_}
 use lib.Dec.{leb}
-use Rattle.packet.specs.Start.{noStart}
+use Rattle.fragment.specs.Start.{noStart}
 use Rattle.picture.specs.declared.Picture.{Picture}
 
 -- no picture is opened

@@ -6,7 +6,7 @@ pub mod completeness;
 pub use completeness::complete;
 ghost use mathlib.Core.Path.{_≡_};
 ghost use Rattle.picture.specs.Picture.{freshPicture, hasRoom, held};
-use packet::start::Start;
+use fragment::start::Start;
 
 // Where no picture is opened the other fields are not looked at; where no start was seen the start fields are not.
 pub struct Picture {

@@ -31,8 +31,8 @@ use Rattle.packet.specs.Checks.{firstOf}
 use Rattle.packet.specs.Rtp.{unusedZero, rtpHolds}
 use Rattle.packet.specs.Frame.{frameChecks}
 use Rattle.packet.specs.Position.{positionChecks, positionOf, readPosition}
-use Rattle.packet.specs.Continuation.{continuationOf}
-use Rattle.packet.specs.Fragment.{takesType, headerOf as fragmentHeader, imageData, offsetOf, outside, fragmentFrame, fragmentChecks, fragmentStatus}
+use Rattle.fragment.specs.Continuation.{continuationOf}
+use Rattle.fragment.specs.Fragment.{takesType, headerOf as fragmentHeader, imageData, offsetOf, outside, fragmentFrame, fragmentChecks, fragmentStatus}
 use Rattle.limits.specs.declared.hex.Digits.{Digits}
 use Rattle.limits.specs.declared.hex.Digits.the-variants as hexadecimal
 use Rattle.limits.specs.Range.{within}

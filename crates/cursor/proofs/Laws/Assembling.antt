@@ -8,13 +8,13 @@ use lib.ListN.{length}
 use Rattle.wire.specs.declared.status.Status.{Status}
 use Rattle.wire.specs.declared.status.Status.the-variants as status
 use Rattle.wire.proofs.Laws.Bool.{by-test}
-use Rattle.packet.specs.declared.fragment.Fragment.{Fragment}
-use Rattle.packet.specs.declared.fragment.Parsed.{Parsed}
+use Rattle.fragment.specs.declared.Fragment.{Fragment}
+use Rattle.fragment.specs.declared.Parsed.{Parsed}
 use Rattle.packet.specs.Checks.{firstOf, accepted}
-use Rattle.packet.specs.Fragment.{isStart, imageData, startFragment, continuationFragment, fragmentOf, fragmentStatus, dataOf, DataInside}
-use Rattle.packet.specs.Parsing.{parsedAs, parsed}
-use Rattle.packet.specs.Start.{startPosition}
-use Rattle.packet.proofs.Laws.Fragment.{starts-is, data-inside}
+use Rattle.fragment.specs.Fragment.{isStart, imageData, startFragment, continuationFragment, fragmentOf, fragmentStatus, dataOf, DataInside}
+use Rattle.fragment.specs.Parsing.{parsedAs, parsed}
+use Rattle.fragment.specs.Start.{startPosition}
+use Rattle.fragment.proofs.Laws.Fragment.{starts-is, data-inside}
 use Rattle.pointer.specs.declared.Pointer.{Pointer}
 use Rattle.pointer.specs.Pointer.{movedTo}
 use Rattle.picture.specs.declared.Picture.{Picture}

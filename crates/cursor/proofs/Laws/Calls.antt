@@ -11,9 +11,9 @@ use Rattle.wire.specs.Splice.{splice}
 use Rattle.wire.specs.declared.status.Status.{Status}
 use Rattle.wire.proofs.Laws.Splice.{length-splice, after-part, getD-splice}
 use Rattle.packet.specs.Checks.{firstOf, accepted}
-use Rattle.packet.specs.Fragment.{fragmentOf, dataOf, DataInside}
-use Rattle.packet.specs.declared.fragment.Fragment.{Fragment}
-use Rattle.packet.proofs.Laws.Fragment.{data-inside}
+use Rattle.fragment.specs.Fragment.{fragmentOf, dataOf, DataInside}
+use Rattle.fragment.specs.declared.Fragment.{Fragment}
+use Rattle.fragment.proofs.Laws.Fragment.{data-inside}
 use Rattle.pointer.specs.declared.Pointer.{Pointer}
 use Rattle.picture.specs.declared.Picture.{Picture}
 use Rattle.picture.proofs.Laws.Picture.{room-says}

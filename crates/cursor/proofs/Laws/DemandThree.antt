@@ -19,11 +19,11 @@ use Rattle.scan.specs.Order.{lesser}
 use Rattle.scan.proofs.Laws.Below.{below-none}
 use Rattle.scan.proofs.Laws.Order.{lesser-le}
 use Rattle.packet.specs.Checks.{firstOf}
-use Rattle.packet.specs.Fragment.{isStart, fragmentOf, dataOf, DataInside}
-use Rattle.packet.specs.declared.fragment.Fragment.{Fragment}
-use Rattle.packet.specs.declared.start.Start.{Start}
+use Rattle.fragment.specs.Fragment.{isStart, fragmentOf, dataOf, DataInside}
+use Rattle.fragment.specs.declared.Fragment.{Fragment}
+use Rattle.fragment.specs.declared.start.Start.{Start}
 use Rattle.packet.proofs.Laws.Checks.{both}
-use Rattle.packet.proofs.Laws.Fragment.{data-inside, starts-is}
+use Rattle.fragment.proofs.Laws.Fragment.{data-inside, starts-is}
 use Rattle.picture.specs.declared.Picture.{Picture}
 use Rattle.picture.specs.declared.completeness.CompleteAnswer.the-variants.{Yes, No}
 use Rattle.picture.specs.Picture.{hasRoom, held}

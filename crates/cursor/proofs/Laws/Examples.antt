@@ -15,9 +15,9 @@ use Rattle.scan.specs.Order.{lesser}
 use Rattle.packet.specs.Checks.{firstOf}
 use Rattle.packet.specs.Frame.{frameChecks}
 use Rattle.packet.specs.Rtp.{rtpHolds, unusedZero}
-use Rattle.packet.specs.Fragment.{takesType, headerOf, imageData, offsetOf, outside, fragmentFrame, fragmentChecks, startFragment, continuationFragment, fragmentOf}
-use Rattle.packet.specs.Continuation.{continuationOf, placeOf}
-use Rattle.packet.specs.Start.{startOf, noStart}
+use Rattle.fragment.specs.Fragment.{takesType, headerOf, imageData, offsetOf, outside, fragmentFrame, fragmentChecks, startFragment, continuationFragment, fragmentOf}
+use Rattle.fragment.specs.Continuation.{continuationOf, placeOf}
+use Rattle.fragment.specs.Start.{startOf, noStart}
 use Rattle.picture.specs.Picture.{hasRoom, held}
 use Rattle.cursor.specs.Judging.{ofOpened, sameStart, startDiffers, bytesDiffer, openedRules, otherRules, judging}
 use Rattle.cursor.specs.Storing.{openedFor, clearedFor, imageAfter, marksAfter, withStart, pictureAfter, outcome, storeChecks, storeStatus, stored}

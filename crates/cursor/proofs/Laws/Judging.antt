@@ -7,7 +7,7 @@ use lib.ListN.{length}
 use Rattle.wire.specs.declared.status.Status.{Status}
 use Rattle.wire.specs.declared.status.Status.the-variants as status
 use Rattle.packet.specs.Checks.{firstOf, accepted}
-use Rattle.packet.specs.declared.fragment.Fragment.{Fragment}
+use Rattle.fragment.specs.declared.Fragment.{Fragment}
 use Rattle.pointer.proofs.Laws.Pointer.{wrap-newer}
 use Rattle.picture.specs.declared.Picture.{Picture}
 use Rattle.picture.specs.Picture.{hasRoom}

@@ -7,12 +7,12 @@ use native.Mathlib.Omega.{arith}
 use lib.ListN.{length, take, drop, length-take, length-drop}
 use Rattle.wire.specs.declared.status.Status.{Status}
 use Rattle.wire.specs.declared.status.Status.the-variants as status
-use Rattle.packet.specs.declared.fragment.Fragment.{Fragment}
-use Rattle.packet.specs.declared.fragment.FragmentAnswer.the-variants as fragment
+use Rattle.fragment.specs.declared.Fragment.{Fragment}
+use Rattle.fragment.specs.declared.FragmentAnswer.the-variants as fragment
 use Rattle.packet.specs.Checks.{firstOf, accepted}
-use Rattle.packet.specs.Fragment.{isStart, imageData, fragmentChecks, fragmentOf, fragmentStatus, dataOf, readFragment, DataInside}
+use Rattle.fragment.specs.Fragment.{isStart, imageData, fragmentChecks, fragmentOf, fragmentStatus, dataOf, readFragment, DataInside}
 use Rattle.packet.proofs.Laws.Checks.{first-append}
-use Rattle.packet.proofs.Laws.Fragment.{checks-refuse, read-refused, read-accepted, starts-is, data-inside}
+use Rattle.fragment.proofs.Laws.Fragment.{checks-refuse, read-refused, read-accepted, starts-is, data-inside}
 use Rattle.pointer.specs.declared.Pointer.{Pointer}
 use Rattle.picture.specs.declared.Picture.{Picture}
 use Rattle.picture.specs.Picture.{held}

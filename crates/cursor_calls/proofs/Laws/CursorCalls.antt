@@ -9,7 +9,7 @@ use lib.ListN.{length}
 use Rattle.wire.specs.declared.status.Status.{Status}
 use Rattle.wire.proofs.Laws.Bool.{by-test}
 use Rattle.packet.specs.Checks.{accepted}
-use Rattle.packet.specs.declared.fragment.Fragment.{Fragment}
+use Rattle.fragment.specs.declared.Fragment.{Fragment}
 use Rattle.pointer.specs.declared.Pointer.{Pointer}
 use Rattle.pointer.specs.declared.PointerAnswer.{PointerAnswer}
 use Rattle.pointer.specs.declared.PointerAnswer.the-variants as position

@@ -1,0 +1,5 @@
+pub mod Continuation
+pub mod Examples
+pub mod Fragment
+pub mod Parsing
+pub mod Start
