@@ -31,9 +31,12 @@ pub fn known_command(command: u8) -> bool
     command <= 6
 }
 
-// The roles of the TLV types in a command. Columns: 0 Friendly Name, 1 no such type, 2 RTSP Port, 3 Source ID, 4 Security Token,
+// A row of the table: what each TLV type is to a command. Columns: 0 Friendly Name, 1 no such type, 2 RTSP Port, 3 Source ID, 4 Security Token,
 // 5 Security Options, 6 PIN Challenge, 7 PIN Response Reason.
-pub fn roles_of(command: u8) -> [u8; 8]
+pub type Roles = [u8; 8];
+
+// The roles of the TLV types in a command.
+pub fn roles_of(command: u8) -> Roles
     ensures { λ r. ⌜ r ≡ rolesOf command ⌝ }
 {
     match command {

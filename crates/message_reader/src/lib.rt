@@ -12,6 +12,7 @@ use message::record;
 use message::record::Field;
 use message::record::Message;
 use message::rules;
+use message::rules::Roles;
 use wire::number::u16_at;
 use wire::status::Status;
 use wire::status::number;
@@ -129,7 +130,7 @@ pub fn tlv_at(bytes: &[u8], at: usize, row: &[u8]) -> Tlv
 }
 
 // Whether no type is still needed.
-pub fn none_needed(row: &[u8; 8]) -> bool
+pub fn none_needed(row: &Roles) -> bool
     ensures { λ r. ⌜ r ≡ allBelow 8 (notNeeded (now (row .entry))) ⌝ }
 {
     let mut kind: usize = 0;
