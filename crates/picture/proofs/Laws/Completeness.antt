@@ -15,7 +15,7 @@ use Rattle.picture.specs.Completeness.{allFilled}
 
 pub all-filled : (marks : List ℕ) (total : ℕ) → ((i : ℕ) → i < total → filledAt marks i ≡ true) → allFilled marks total ≡ true
 unfolding allFilled
-all-filled marks total h = rw (below-none total (emptyAt marks) (λ i l. not-true _ (h i l)))
+all-filled marks total h = ap not (below-none total (emptyAt marks) (λ i l. not-true _ (h i l)))
 
 pub filled-all : (marks : List ℕ) (total : ℕ) → allFilled marks total ≡ true → (i : ℕ) → i < total → filledAt marks i ≡ true
 unfolding allFilled

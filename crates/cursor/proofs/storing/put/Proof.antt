@@ -1,12 +1,13 @@
 -- Each lent part comes back with the new bytes in it. Assumes nothing.
-use mathlib.Core.Path.{_≡_, refl}
-use Prim.Native.Nat.{_+_, _-_}
+use mathlib.Core.Path.{_≡_, refl, ap, _∙_}
+use Prim.Native.Nat.{ℕ, _+_, _-_}
 use native.Mathlib.Omega.{arith}
 use lib.ListN.{length, drop, take}
 use denote.Ref.{now}
 use borrow.Author.Needs.{needs}
 use lib.ListN.{replicate, length-replicate}
 use Rattle.wire.proofs.Laws.Splice.{part-back}
+use Rattle.scan.specs.Bytes.{copied}
 use Rattle.scan.proofs.Laws.Bytes.{copied-all}
 use Rattle.cursor.proofs.Laws.Storing.{part-length}
 use Rattle.cursor.proofs.storing.put.Statement.{statement}
@@ -55,8 +56,10 @@ returns c =
     let n = length d in
     let e : (a .offset + n) - a .offset ≡ n = omega arith in
     let l : length (take n (drop (a .offset) (now (a .image)))) ≡ n = part-length (a .offset) n (now (a .image)) (s .pre .0) in (
-      rw (k .copy .ensures, e, copied-all d (take n (drop (a .offset) (now (a .image)))) l) (part-back (a .offset) n (now (a .image)) d refl),
-      rw (f .fill .ensures, e, part-length (a .offset) n (now (a .marks)) (s .pre .1)) (part-back (a .offset) n (now (a .marks)) (replicate n 1) (length-replicate n 1)),
+      rw (k .copy .ensures ∙ ap (λ (i : ℕ). copied d (take i (drop (a .offset) (now (a .image))))) e ∙ copied-all d (take n (drop (a .offset) (now (a .image)))) l, e)
+          (part-back (a .offset) n (now (a .image)) d refl),
+      rw (f .fill .ensures ∙ ap (λ (i : ℕ). replicate (length (take i (drop (a .offset) (now (a .marks))))) 1) e ∙ ap (λ (i : ℕ). replicate i 1) (part-length (a .offset) n (now (a .marks)) (s .pre .1)), e)
+          (part-back (a .offset) n (now (a .marks)) (replicate n 1) (length-replicate n 1)),
     )
 
 pub put-spec : {M : Type 1} → statement M
