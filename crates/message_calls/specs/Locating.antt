@@ -14,13 +14,13 @@ use Rattle.message_reader.specs.declared.Answer.the-variants as answer
 abbrev pub none : List ℕ
 none = replicate 8 0
 
--- what the length is multiplied by beside the place: 256 ^ 4, since both have four bytes in the record
-abbrev pub wide : ℕ
-wide = 4294967296
+-- 256 ^ 4: in a value's number the place has the low four bytes and the length the high ones, as both have four in the record
+abbrev pub high : ℕ
+high = 4294967296
 
 -- the field of such a number; no value begins at 0, where the header stands, so 0 is none
 unfoldable pub fieldFrom : ℕ → Field
-fieldFrom v = record { present = not (eqb v 0); at = v % wide; len = v / wide }
+fieldFrom v = record { present = not (eqb v 0); at = v % high; len = v / high }
 
 -- the record of command c with these values
 unfoldable pub messageFrom : ℕ → List ℕ → Message

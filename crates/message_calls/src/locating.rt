@@ -16,8 +16,8 @@ use message_reader::Tlv;
 use message_reader::Verdict;
 use wire::status::Status;
 
-// What the length is multiplied by beside the place: both have four bytes in the record.
-const WIDE: u64 = 4294967296;
+// In a value's number the place has the low four bytes and the length the high ones: the length times this is added to the place.
+const HIGH: u64 = 4294967296;
 
 // The TLVs after the header, from left to right, and last whether one is missing. The row of the command is changed on the way: SEEN for
 // each type that was there.
@@ -32,7 +32,7 @@ fn locate_tlvs(bytes: &[u8], command: u8, values: &mut [u64; 8]) -> Verdict
         match message_reader::tlv_at(bytes, at, &row) {
             Tlv::Right { kind, len } => {
                 row[kind as usize] = rules::SEEN;
-                values[kind as usize] = (at + 3) as u64 + WIDE * (len as u64);
+                values[kind as usize] = (at + 3) as u64 + HIGH * (len as u64);
                 at = at + 3 + len;
             }
             Tlv::Refused { status } => {
@@ -71,8 +71,8 @@ fn field_from(value: u64) -> Field
 {
     Field {
         present: value != 0,
-        at: (value % WIDE) as u32,
-        len: (value / WIDE) as u32,
+        at: (value % HIGH) as u32,
+        len: (value / HIGH) as u32,
     }
 }
 

@@ -38,8 +38,8 @@ fn round(table: &mut Table) {
 }
 
 /// Runs a round below so many frames of some 1,000 bytes, so that each round has its stack at other
-/// places of a page: at an unlucky place, where a variable of the caller lies across two pages, a
-/// call of 14 nanoseconds takes 27.
+/// places of a page: where a variable of the caller lies across two pages, a call of 14 nanoseconds
+/// takes 27.
 #[inline(never)]
 fn deeper(depth: usize, round: &mut dyn FnMut()) {
     let frame = black_box([0; 1000]);

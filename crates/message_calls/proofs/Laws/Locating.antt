@@ -24,7 +24,7 @@ use Rattle.message_reader.specs.Checking.{tlvIn, notNeeded, verdictOf}
 use Rattle.message.proofs.Laws.Record.{field-with, field-empty}
 use Rattle.message_reader.proofs.Laws.Checking.{Checked, Whole, checked-start, start-record, checked-fits, checked-refused}
 use Rattle.message_reader.proofs.Laws.Checking.{checked-next, next-record, checked-complete, checked-missing}
-use Rattle.message_calls.specs.Locating.{none, wide, fieldFrom, messageFrom, Located}
+use Rattle.message_calls.specs.Locating.{none, high, fieldFrom, messageFrom, Located}
 
 -- ---- the values of a record
 
@@ -47,17 +47,17 @@ value at n = record { present = true; at = at + 3; len = n }
 
 -- the number of a value of n bytes in the TLV at `at`
 abbrev pub numberFor : ℕ → ℕ → ℕ
-numberFor at n = at + 3 + wide * n
+numberFor at n = at + 3 + high * n
 
-value-from : (at n : ℕ) → at + 3 < wide → value at n ≡ fieldFrom (numberFor at n)
+value-from : (at n : ℕ) → at + 3 < high → value at n ≡ fieldFrom (numberFor at n)
 unfolding fieldFrom
 value-from at n h =
-    let low : numberFor at n % wide ≡ at + 3 = omega arith in
-    let high : numberFor at n / wide ≡ n = omega arith in
-    simp (ne-eqb (numberFor at n) 0 (λ e. omega arith), low, high)
+    let place : numberFor at n % high ≡ at + 3 = omega arith in
+    let len : numberFor at n / high ≡ n = omega arith in
+    simp (ne-eqb (numberFor at n) 0 (λ e. omega arith), place, len)
 
 pub values-with
-    : (m : Message) (values : List ℕ) (t at n : ℕ) → t < 8 → (t ≡ 1 → ⊥) → at + 3 < wide → Values m values
+    : (m : Message) (values : List ℕ) (t at n : ℕ) → t < 8 → (t ≡ 1 → ⊥) → at + 3 < high → Values m values
     → Values (withField m t (value at n)) (set values t (numberFor at n))
 values-with m values t at n h k w v =
     record {
