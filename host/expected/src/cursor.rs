@@ -1,4 +1,4 @@
-//! What `cursor_run` must print: positions, offsets, the packets of 003 section 4, orders and
+//! What `run_cursor` must print: positions, offsets, the packets of 003 section 4, orders and
 //! repeats of a small picture, its refusals, and sequence numbers that wrap.
 
 use std::fmt::Write;

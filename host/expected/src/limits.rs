@@ -1,4 +1,4 @@
-//! What `limits_run` must print: how many numbers of each field come back when written and read,
+//! What `run_limits` must print: how many numbers of each field come back when written and read,
 //! and what good and bad spellings mean.
 
 use reference::limits::{self, Limits};

@@ -3,7 +3,7 @@
 //!
 //! `expected --check CRATES` compares each stored file below the folder `CRATES` with the expected
 //! one, a line a file; the exit status is 1 where one differs. `expected --write CRATES` stores
-//! them, and `expected FILE` prints one, as `expected wire_run/stdout`.
+//! them, and `expected FILE` prints one, as `expected run_wire/stdout`.
 
 mod cursor;
 mod limits;
@@ -22,11 +22,11 @@ type Contents = fn() -> Vec<u8>;
 
 /// The stored files, each with what it must hold.
 const FILES: [(&str, Contents); 7] = [
-    ("wire_run/stdout", || wire::lines().into()),
+    ("run_wire/stdout", || wire::lines().into()),
     ("vectors/stdout", || vectors::lines().into()),
-    ("session_run/stdout", || session::lines().into()),
-    ("limits_run/stdout", || limits::lines().into()),
-    ("cursor_run/stdout", || cursor::lines().into()),
+    ("run_session/stdout", || session::lines().into()),
+    ("run_limits/stdout", || limits::lines().into()),
+    ("run_cursor/stdout", || cursor::lines().into()),
     ("replay/data/stream", replay::stream),
     ("replay/stdout", || replay::lines().into()),
 ];

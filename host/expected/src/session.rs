@@ -1,4 +1,4 @@
-//! What `session_run` must print: every combination of state, event, Source IDs and options.
+//! What `run_session` must print: every combination of state, event, Source IDs and options.
 
 use reference::session::{self, Session, State};
 

@@ -1,4 +1,4 @@
-//! What `wire_run` must print, by the standard library's own conversions and the reference's order
+//! What `run_wire` must print, by the standard library's own conversions and the reference's order
 //! of sequence numbers.
 
 use std::fmt::Write;

@@ -3,8 +3,8 @@ use Prim.Native.Nat.{_≤_, _-_}
 use mathlib.Core.Logic.{⊎-elim}
 use native.Mathlib.Omega.{arith}
 use borrow.Author.Needs.{needs}
-use Rattle.wire_run.proofs.count_newer.Statement.{statement}
-use Rattle.wire_run.proofs.count_newer.Tie as tie
+use Rattle.run_wire.proofs.count_newer.Statement.{statement}
+use Rattle.run_wire.proofs.count_newer.Tie as tie
 
 abbrev Inv-loop : tie.InvT-loop
 Inv-loop known last count₀ new₀ count new = (count ≤ new) × (new ≤ 65535)

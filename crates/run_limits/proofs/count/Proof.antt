@@ -3,8 +3,8 @@ use Prim.Native.Nat.{_≤_, _-_}
 use mathlib.Core.Logic.{⊎-elim}
 use native.Mathlib.Omega.{arith}
 use borrow.Author.Needs.{needs}
-use Rattle.limits_run.proofs.count.Statement.{statement}
-use Rattle.limits_run.proofs.count.Tie as tie
+use Rattle.run_limits.proofs.count.Statement.{statement}
+use Rattle.run_limits.proofs.count.Tie as tie
 
 abbrev Inv-loop : tie.InvT-loop
 Inv-loop field n₀ number₀ n number = (number ≤ 65536) × (n ≤ number)
