@@ -4,12 +4,12 @@ ghost use lib.ListN.{length};
 ghost use Rattle.pointer.specs.Pointer.{freshPointer};
 ghost use Rattle.picture.specs.Picture.{freshPicture};
 ghost use Rattle.little_endian.specs.Layout.{laid};
-ghost use Rattle.cursor_records.specs.PointerRecord.{pointerBytes};
-ghost use Rattle.cursor_records.specs.PictureRecord.{pictureBytes};
-ghost use Rattle.answers.specs.Fresh.{freshAnswer};
+ghost use Rattle.cursor_layout.specs.PointerLayout.{pointerBytes};
+ghost use Rattle.cursor_layout.specs.PictureLayout.{pictureBytes};
+ghost use Rattle.host_answers.specs.Fresh.{freshAnswer};
 ghost use Rattle.cursor_calls.specs.CursorCalls.{afterPosition, cursorPosition, afterStore, cursorStore, cursorComplete};
-use answers::Answer;
-use answers::Yes;
+use host_answers::Answer;
+use host_answers::Yes;
 
 // Writes that no position is known. Answers 0, or 10 where the pointer's record has fewer than 7 bytes, which then stay as they are.
 #[no_mangle]

@@ -1,8 +1,8 @@
 // The calls of the cursor limits value, for hosts.
 ghost use mathlib.Core.Path.{_≡_};
 ghost use Rattle.limits_calls.specs.LimitsCalls.{readAnswer, readRecord, limitsWritten, limitsOutput};
-use answers::Answer;
-use answers::Written;
+use host_answers::Answer;
+use host_answers::Written;
 
 // Reads a value, which is all of the lent text, into the record. Answers 0, or the reader's refusal and its place, or 10 where the record is
 // short. A refusal leaves the record as it was.

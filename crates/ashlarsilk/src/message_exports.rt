@@ -2,10 +2,10 @@
 ghost use mathlib.Core.Path.{_≡_};
 ghost use Rattle.message_calls.specs.MessageCalls.{readAnswer, readRecord, messageWritten, messageOutput, portAnswer, optionsAnswer};
 ghost use Rattle.message_calls.specs.MessageCalls.{sourceAnswer, sourceLent};
-use answers::Answer;
-use answers::Number;
-use answers::Written;
-use answers::Yes;
+use host_answers::Answer;
+use host_answers::Number;
+use host_answers::Written;
+use host_answers::Yes;
 
 // Reads a message, which is all of the lent bytes, into the record. Answers 0, or the reader's refusal and its place, or 10 where the record
 // is short. A refusal leaves the record as it was.

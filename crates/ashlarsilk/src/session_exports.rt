@@ -3,10 +3,10 @@ ghost use mathlib.Core.Path.{_≡_};
 ghost use lib.ListN.{length};
 ghost use Rattle.session_table.specs.Record.{freshSession};
 ghost use Rattle.little_endian.specs.Layout.{laid};
-ghost use Rattle.session_record.specs.SessionRecord.{sessionBytes};
-ghost use Rattle.answers.specs.Fresh.{freshAnswer};
+ghost use Rattle.session_layout.specs.SessionLayout.{sessionBytes};
+ghost use Rattle.host_answers.specs.Fresh.{freshAnswer};
 ghost use Rattle.session_calls.specs.SessionCalls.{after, sessionStep, sessionMessage};
-use answers::Step;
+use host_answers::Step;
 
 // Writes the session of a new connection. Answers 0, or 10 where the record has fewer than 19 bytes, which then stay as they are.
 #[no_mangle]

@@ -18,11 +18,11 @@ use Rattle.cursor.specs.declared.storing.StoreAnswer.the-variants as store
 use Rattle.cursor.specs.Storing as storing
 use Rattle.cursor.specs.Storing.{stored}
 use Rattle.little_endian.specs.Layout.{laid}
-use Rattle.cursor_records.specs.PointerRecord.{pointerBytes, pointerOf}
-use Rattle.cursor_records.specs.PictureRecord.{pictureBytes, pictureOf}
-use Rattle.answers.specs.declared.Answer.{Answer}
-use Rattle.answers.specs.declared.Yes.{Yes}
-use Rattle.answers.specs.Answers.{accepted, refused, short}
+use Rattle.cursor_layout.specs.PointerLayout.{pointerBytes, pointerOf}
+use Rattle.cursor_layout.specs.PictureLayout.{pictureBytes, pictureOf}
+use Rattle.host_answers.specs.declared.Answer.{Answer}
+use Rattle.host_answers.specs.declared.Yes.{Yes}
+use Rattle.host_answers.specs.Answers.{accepted, refused, short}
 
 -- The call for positions.
 

@@ -4,17 +4,17 @@ ghost use lib.ListN.{length};
 ghost use Rattle.pointer.specs.Pointer.{freshPointer};
 ghost use Rattle.picture.specs.Picture.{freshPicture};
 ghost use Rattle.little_endian.specs.Layout.{laid};
-ghost use Rattle.cursor_records.specs.PointerRecord.{pointerBytes};
-ghost use Rattle.cursor_records.specs.PictureRecord.{pictureBytes};
-ghost use Rattle.answers.specs.Fresh.{freshAnswer};
+ghost use Rattle.cursor_layout.specs.PointerLayout.{pointerBytes};
+ghost use Rattle.cursor_layout.specs.PictureLayout.{pictureBytes};
+ghost use Rattle.host_answers.specs.Fresh.{freshAnswer};
 ghost use Rattle.cursor_calls.specs.CursorCalls.{afterPosition, cursorPosition, recordsWhole, afterStore, cursorStore, yesOrNo, cursorComplete};
-use answers::Answer;
-use answers::Yes;
-use answers::accept;
-use answers::refuse;
+use host_answers::Answer;
+use host_answers::Yes;
+use host_answers::accept;
+use host_answers::refuse;
 use cursor::storing;
-use cursor_records::picture_record;
-use cursor_records::pointer_record;
+use cursor_layout::picture_layout;
+use cursor_layout::pointer_layout;
 use picture::Picture;
 use picture::completeness::CompleteAnswer;
 use pointer::Pointer;
@@ -26,8 +26,8 @@ pub fn pointer_fresh(pointer: &mut [u8]) -> u8
     ensures answer { λ r. ⌜ r ≡ freshAnswer 7 (length (now (pointer .entry))) ⌝ }
     ensures bytes { λ _. ⌜ now (pointer .exit) ≡ laid (pointerBytes freshPointer) (now (pointer .entry)) ⌝ }
 {
-    pointer_record::write(pointer, Pointer::fresh());
-    answers::fresh_answer(pointer.len(), pointer_record::LENGTH)
+    pointer_layout::write(pointer, Pointer::fresh());
+    host_answers::fresh_answer(pointer.len(), pointer_layout::LENGTH)
 }
 
 // Writes that no picture is opened.
@@ -35,24 +35,24 @@ pub fn picture_fresh(picture: &mut [u8]) -> u8
     ensures answer { λ r. ⌜ r ≡ freshAnswer 15 (length (now (picture .entry))) ⌝ }
     ensures bytes { λ _. ⌜ now (picture .exit) ≡ laid (pictureBytes freshPicture) (now (picture .entry)) ⌝ }
 {
-    picture_record::write(picture, Picture::fresh());
-    answers::fresh_answer(picture.len(), picture_record::LENGTH)
+    picture_layout::write(picture, Picture::fresh());
+    host_answers::fresh_answer(picture.len(), picture_layout::LENGTH)
 }
 
 // The call for positions.
 pub fn position(pointer: &mut [u8], packet: &[u8]) -> Answer
     ensures { λ r. ⌜ afterPosition r (now (pointer .exit)) ≡ cursorPosition (now (pointer .entry)) (now (packet .entry)) ⌝ }
 {
-    if pointer.len() < pointer_record::LENGTH {
+    if pointer.len() < pointer_layout::LENGTH {
         return refuse(Status::NoRoom, 0);
     }
-    let after = pointer::take(pointer_record::read(pointer), packet);
+    let after = pointer::take(pointer_layout::read(pointer), packet);
     let status = after.status;
     let set = after.pointer;
     if status::number(status) != 0 {
         return refuse(status, 0);
     }
-    pointer_record::write(pointer, set);
+    pointer_layout::write(pointer, set);
     accept()
 }
 
@@ -60,10 +60,10 @@ pub fn position(pointer: &mut [u8], packet: &[u8]) -> Answer
 fn are_whole(pointer: usize, picture: usize) -> bool
     ensures { λ r. ⌜ r ≡ recordsWhole pointer picture ⌝ }
 {
-    if pointer < pointer_record::LENGTH {
+    if pointer < pointer_layout::LENGTH {
         return false;
     }
-    picture_record::LENGTH <= picture
+    picture_layout::LENGTH <= picture
 }
 
 // The call for starts and continuations. The pointer's record is read only for a fragment that is accepted.
@@ -79,15 +79,15 @@ pub fn store(
     if !are_whole(pointer.len(), picture.len()) {
         return refuse(Status::NoRoom, 0);
     }
-    let assembled = storing::assemble(picture_record::read(picture), packet, image, marks);
+    let assembled = storing::assemble(picture_layout::read(picture), packet, image, marks);
     let judged = assembled.status;
     let opened = assembled.picture;
     if status::number(judged) != 0 {
         return refuse(judged, 0);
     }
-    let moved = storing::moved_by(pointer_record::read(pointer), packet);
-    picture_record::write(picture, opened);
-    pointer_record::write(pointer, moved);
+    let moved = storing::moved_by(pointer_layout::read(pointer), packet);
+    picture_layout::write(picture, opened);
+    pointer_layout::write(pointer, moved);
     accept()
 }
 
@@ -115,11 +115,11 @@ fn answered(answer: CompleteAnswer) -> Yes
 pub fn complete(picture: &[u8], image: &[u8], marks: &[u8]) -> Yes
     ensures { λ r. ⌜ r ≡ cursorComplete (now (picture .entry)) (now (image .entry)) (now (marks .entry)) ⌝ }
 {
-    if picture.len() < picture_record::LENGTH {
+    if picture.len() < picture_layout::LENGTH {
         return answered(CompleteAnswer::Refused {
             status: Status::NoRoom,
             place: 0,
         });
     }
-    answered(picture::complete(picture_record::read(picture), image, marks))
+    answered(picture::complete(picture_layout::read(picture), image, marks))
 }

@@ -1,5 +1,5 @@
 -- What the calls of the cursor limits value answer, and what the lent bytes then hold: by the definitions of the value (crate limits) and of
--- its record as bytes (crate limits_record). s are the bytes of a text, xs those of a record. Assumes nothing.
+-- its record as bytes (crate limits_layout). s are the bytes of a text, xs those of a record. Assumes nothing.
 use Prim.Native.Nat.{ℕ}
 use mathlib.Core.List.{List}
 use mathlib.Core.Bool.{cond}
@@ -16,10 +16,10 @@ use Rattle.limits.specs.Reading.{readValue}
 use Rattle.limits.specs.Word.{copied}
 use Rattle.limits.specs.Writing.{spelling, writeAnswer}
 use Rattle.little_endian.specs.Layout.{laid}
-use Rattle.limits_record.specs.LimitsRecord.{limitsBytes, limitsIn}
-use Rattle.answers.specs.declared.Answer.{Answer}
-use Rattle.answers.specs.declared.Written.{Written}
-use Rattle.answers.specs.Answers.{accepted, refused, short}
+use Rattle.limits_layout.specs.LimitsLayout.{limitsBytes, limitsIn}
+use Rattle.host_answers.specs.declared.Answer.{Answer}
+use Rattle.host_answers.specs.declared.Written.{Written}
+use Rattle.host_answers.specs.Answers.{accepted, refused, short}
 
 -- ---- Reading
 

@@ -1,10 +1,10 @@
 // The calls of the cursor limits value over lent records. Crate ashlarsilk exports each, and says there in words what a host gets.
 ghost use mathlib.Core.Path.{_≡_};
 ghost use Rattle.limits_calls.specs.LimitsCalls.{readAnswer, readRecord, limitsWritten, limitsOutput};
-use answers::Answer;
-use answers::Written;
-use answers::accept;
-use answers::refuse;
+use host_answers::Answer;
+use host_answers::Written;
+use host_answers::accept;
+use host_answers::refuse;
 use limits::value;
 use wire::status;
 use wire::status::Status;
@@ -14,12 +14,12 @@ pub fn read(text: &[u8], record: &mut [u8]) -> Answer
     ensures answer { λ r. ⌜ r ≡ readAnswer (now (text .entry)) (now («record» .entry)) ⌝ }
     ensures after { λ _. ⌜ now («record» .exit) ≡ readRecord (now (text .entry)) (now («record» .entry)) ⌝ }
 {
-    if record.len() < limits_record::LENGTH {
+    if record.len() < limits_layout::LENGTH {
         return refuse(Status::NoRoom, 0);
     }
     match limits::read(text) {
         value::Answer::Accepted(found) => {
-            limits_record::write(record, found);
+            limits_layout::write(record, found);
             accept()
         }
         value::Answer::Refused { status, place } => refuse(status, place),
@@ -31,13 +31,13 @@ pub fn write(record: &[u8], out: &mut [u8]) -> Written
     ensures answer { λ r. ⌜ r ≡ limitsWritten (now («record» .entry)) (now (out .entry)) ⌝ }
     ensures after { λ _. ⌜ now (out .exit) ≡ limitsOutput (now («record» .entry)) (now (out .entry)) ⌝ }
 {
-    if record.len() < limits_record::LENGTH {
+    if record.len() < limits_layout::LENGTH {
         return Written {
             status: status::number(Status::NoRoom),
             size: 0,
         };
     }
-    match limits::write(limits_record::read(record), out) {
+    match limits::write(limits_layout::read(record), out) {
         value::Written::Accepted(size) => Written { status: 0, size },
         value::Written::Refused { status, place } => Written {
             status: status::number(status),

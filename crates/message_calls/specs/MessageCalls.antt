@@ -1,5 +1,5 @@
 -- What the calls of connection messages answer, and what the lent bytes then hold: by the definitions of the message (crate message) and of
--- its record as bytes (crate message_record). s are the lent bytes of a message, xs those of its record. Assumes nothing.
+-- its record as bytes (crate message_layout). s are the lent bytes of a message, xs those of its record. Assumes nothing.
 use Prim.Native.Nat.{ℕ}
 use mathlib.Core.List.{List}
 use mathlib.Core.Bool.{false, cond}
@@ -18,12 +18,12 @@ use Rattle.message_reader.specs.Reading.{readMessage}
 use Rattle.message_writer.specs.Writing.{writeAnswer, output}
 use Rattle.message.specs.Accessors.{portOf, optionsOf, sourceOf}
 use Rattle.little_endian.specs.Layout.{laid}
-use Rattle.message_record.specs.MessageRecord.{messageBytes, messageIn}
-use Rattle.answers.specs.declared.Answer.{Answer}
-use Rattle.answers.specs.declared.Number.{Number}
-use Rattle.answers.specs.declared.Written.{Written}
-use Rattle.answers.specs.declared.Yes.{Yes}
-use Rattle.answers.specs.Answers.{accepted, refused, short}
+use Rattle.message_layout.specs.MessageLayout.{messageBytes, messageIn}
+use Rattle.host_answers.specs.declared.Answer.{Answer}
+use Rattle.host_answers.specs.declared.Number.{Number}
+use Rattle.host_answers.specs.declared.Written.{Written}
+use Rattle.host_answers.specs.declared.Yes.{Yes}
+use Rattle.host_answers.specs.Answers.{accepted, refused, short}
 
 -- ---- Reading
 

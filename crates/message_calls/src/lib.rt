@@ -4,12 +4,12 @@ mod locating;
 ghost use mathlib.Core.Path.{_≡_};
 ghost use Rattle.message_calls.specs.MessageCalls.{readAnswer, readRecord, messageWritten, messageOutput, portAnswer, optionsAnswer};
 ghost use Rattle.message_calls.specs.MessageCalls.{sourceAnswer, sourceLent};
-use answers::Answer;
-use answers::Number;
-use answers::Written;
-use answers::Yes;
-use answers::accept;
-use answers::refuse;
+use host_answers::Answer;
+use host_answers::Number;
+use host_answers::Written;
+use host_answers::Yes;
+use host_answers::accept;
+use host_answers::refuse;
 use message::accessors;
 use scan::bytes;
 use wire::number::u8_at;
@@ -22,7 +22,7 @@ pub fn read(bytes: &[u8], record: &mut [u8]) -> Answer
     ensures answer { λ r. ⌜ r ≡ readAnswer (now (bytes .entry)) (now («record» .entry)) ⌝ }
     ensures after { λ _. ⌜ now («record» .exit) ≡ readRecord (now (bytes .entry)) (now («record» .entry)) ⌝ }
 {
-    if record.len() < message_record::LENGTH {
+    if record.len() < message_layout::LENGTH {
         return refuse(Status::NoRoom, 0);
     }
     let mut values = [0u64; 8];
@@ -31,7 +31,7 @@ pub fn read(bytes: &[u8], record: &mut [u8]) -> Answer
     if status::number(status) != 0 {
         return refuse(status, verdict.place);
     }
-    message_record::write(record, locating::message_from(u8_at(bytes, 3), &values));
+    message_layout::write(record, locating::message_from(u8_at(bytes, 3), &values));
     accept()
 }
 
@@ -40,13 +40,13 @@ pub fn write(bytes: &[u8], record: &[u8], out: &mut [u8]) -> Written
     ensures answer { λ r. ⌜ r ≡ messageWritten (now (bytes .entry)) (now («record» .entry)) (now (out .entry)) ⌝ }
     ensures after { λ _. ⌜ now (out .exit) ≡ messageOutput (now (bytes .entry)) (now («record» .entry)) (now (out .entry)) ⌝ }
 {
-    if record.len() < message_record::LENGTH {
+    if record.len() < message_layout::LENGTH {
         return Written {
             status: status::number(Status::NoRoom),
             size: 0,
         };
     }
-    match message_writer::write(bytes, message_record::read(record), out) {
+    match message_writer::write(bytes, message_layout::read(record), out) {
         message_writer::Written::Wrote(size) => Written { status: 0, size },
         message_writer::Written::Refused { status, place } => Written {
             status: status::number(status),
@@ -59,7 +59,7 @@ pub fn write(bytes: &[u8], record: &[u8], out: &mut [u8]) -> Written
 pub fn rtsp_port(bytes: &[u8], record: &[u8]) -> Number
     ensures { λ r. ⌜ r ≡ portAnswer (now (bytes .entry)) (now («record» .entry)) ⌝ }
 {
-    if record.len() < message_record::LENGTH {
+    if record.len() < message_layout::LENGTH {
         return Number {
             status: status::number(Status::NoRoom),
             value: 0,
@@ -67,7 +67,7 @@ pub fn rtsp_port(bytes: &[u8], record: &[u8]) -> Number
     }
     Number {
         status: 0,
-        value: accessors::rtsp_port(bytes, message_record::read(record)),
+        value: accessors::rtsp_port(bytes, message_layout::read(record)),
     }
 }
 
@@ -75,7 +75,7 @@ pub fn rtsp_port(bytes: &[u8], record: &[u8]) -> Number
 pub fn security_options(bytes: &[u8], record: &[u8]) -> Number
     ensures { λ r. ⌜ r ≡ optionsAnswer (now (bytes .entry)) (now («record» .entry)) ⌝ }
 {
-    if record.len() < message_record::LENGTH {
+    if record.len() < message_layout::LENGTH {
         return Number {
             status: status::number(Status::NoRoom),
             value: 0,
@@ -83,7 +83,7 @@ pub fn security_options(bytes: &[u8], record: &[u8]) -> Number
     }
     Number {
         status: 0,
-        value: accessors::security_options(bytes, message_record::read(record)) as u16,
+        value: accessors::security_options(bytes, message_layout::read(record)) as u16,
     }
 }
 
@@ -92,7 +92,7 @@ pub fn source_id(bytes: &[u8], record: &[u8], id: &mut [u8]) -> Yes
     ensures answer { λ r. ⌜ r ≡ sourceAnswer (now (bytes .entry)) (now («record» .entry)) (now (id .entry)) ⌝ }
     ensures after { λ _. ⌜ now (id .exit) ≡ sourceLent (now (bytes .entry)) (now («record» .entry)) (now (id .entry)) ⌝ }
 {
-    if record.len() < message_record::LENGTH {
+    if record.len() < message_layout::LENGTH {
         return Yes {
             status: status::number(Status::NoRoom),
             yes: false,
@@ -104,7 +104,7 @@ pub fn source_id(bytes: &[u8], record: &[u8], id: &mut [u8]) -> Yes
             yes: false,
         };
     }
-    let source = accessors::source_id(bytes, message_record::read(record));
+    let source = accessors::source_id(bytes, message_layout::read(record));
     if source.present {
         let found = source.bytes;
         bytes::copy(id, &found);

@@ -14,8 +14,8 @@ use Rattle.session.specs.declared.step.Stepped.{Stepped}
 use Rattle.session.specs.Step.{stepOf}
 use Rattle.session.specs.Message.{onMessage}
 use Rattle.little_endian.specs.Layout.{laid}
-use Rattle.session_record.specs.SessionRecord.{sourceAt, stateNumber, sessionBytes, sessionOf}
-use Rattle.answers.specs.declared.Step.{Step}
+use Rattle.session_layout.specs.SessionLayout.{sourceAt, stateNumber, sessionBytes, sessionOf}
+use Rattle.host_answers.specs.declared.Step.{Step}
 
 -- an answer, with what the lent record then holds
 pub record After : Type 0 where

@@ -3,10 +3,10 @@ ghost use mathlib.Core.Path.{_≡_};
 ghost use lib.ListN.{length};
 ghost use Rattle.session_table.specs.Record.{freshSession};
 ghost use Rattle.little_endian.specs.Layout.{laid};
-ghost use Rattle.session_record.specs.SessionRecord.{sessionBytes};
-ghost use Rattle.answers.specs.Fresh.{freshAnswer};
+ghost use Rattle.session_layout.specs.SessionLayout.{sessionBytes};
+ghost use Rattle.host_answers.specs.Fresh.{freshAnswer};
 ghost use Rattle.session_calls.specs.SessionCalls.{after, shortStep, answerOf, left, sourceIn, taken, sessionStep, sessionMessage};
-use answers::Step;
+use host_answers::Step;
 use message::accessors::SourceId;
 use session::message_step;
 use session::step;
@@ -22,8 +22,8 @@ pub fn fresh(record: &mut [u8]) -> u8
     ensures answer { λ r. ⌜ r ≡ freshAnswer 19 (length (now («record» .entry))) ⌝ }
     ensures bytes { λ _. ⌜ now («record» .exit) ≡ laid (sessionBytes freshSession) (now («record» .entry)) ⌝ }
 {
-    session_record::write(record, Session::fresh());
-    answers::fresh_answer(record.len(), session_record::LENGTH)
+    session_layout::write(record, Session::fresh());
+    host_answers::fresh_answer(record.len(), session_layout::LENGTH)
 }
 
 // A lent slice is too short.
@@ -58,11 +58,11 @@ fn leave(record: &mut [u8], before: u8, stepped: Stepped) -> Step
     let session = stepped.session;
     let status = answer.status;
     if status::number(status) == 0 {
-        session_record::write(record, session);
+        session_layout::write(record, session);
         return answered(answer);
     }
     let state = session.state;
-    let number = session_record::number_of(state);
+    let number = session_layout::number_of(state);
     if number != before {
         put_u8(record, 0, number);
         return answered(answer);
@@ -74,14 +74,14 @@ fn leave(record: &mut [u8], before: u8, stepped: Stepped) -> Step
 fn source_of(bytes: &[u8]) -> SourceId
     ensures { λ r. ⌜ r ≡ sourceIn (now (bytes .entry)) ⌝ }
 {
-    session_record::source_at(bytes.len() != 0, bytes, 0)
+    session_layout::source_at(bytes.len() != 0, bytes, 0)
 }
 
 // Whether a record of so many bytes has all of its own, and `source` is a Source ID or none.
 fn are_taken(lent: usize, source: &[u8]) -> bool
     ensures { λ r. ⌜ r ≡ taken lent (now (source .entry)) ⌝ }
 {
-    if lent < session_record::LENGTH {
+    if lent < session_layout::LENGTH {
         return false;
     }
     if source.len() == 0 {
@@ -98,21 +98,21 @@ pub fn on_event(record: &mut [u8], event: u8, source: &[u8], options: u8) -> Ste
     if !are_taken(record.len(), source) {
         return short();
     }
-    let session = session_record::read(record);
+    let session = session_layout::read(record);
     let state = session.state;
     let stepped = step::step(session, event, source_of(source), options);
-    leave(record, session_record::number_of(state), stepped)
+    leave(record, session_layout::number_of(state), stepped)
 }
 
 // A step with a message, which is all of the lent bytes.
 pub fn on_message(record: &mut [u8], bytes: &[u8]) -> Step
     ensures { λ r. ⌜ after r (now («record» .exit)) ≡ sessionMessage (now («record» .entry)) (now (bytes .entry)) ⌝ }
 {
-    if record.len() < session_record::LENGTH {
+    if record.len() < session_layout::LENGTH {
         return short();
     }
-    let session = session_record::read(record);
+    let session = session_layout::read(record);
     let state = session.state;
     let stepped = message_step::on_message(session, bytes);
-    leave(record, session_record::number_of(state), stepped)
+    leave(record, session_layout::number_of(state), stepped)
 }

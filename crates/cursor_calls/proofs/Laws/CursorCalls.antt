@@ -19,9 +19,9 @@ use Rattle.cursor.specs.declared.storing.StoreAnswer.{StoreAnswer}
 use Rattle.cursor.specs.declared.storing.StoreAnswer.the-variants as store
 use Rattle.cursor.specs.Storing as storing
 use Rattle.cursor.specs.Storing.{outcome, stored}
-use Rattle.cursor_records.specs.PointerRecord.{pointerOf}
-use Rattle.cursor_records.specs.PictureRecord.{pictureOf}
-use Rattle.answers.specs.Answers.{short}
+use Rattle.cursor_layout.specs.PointerLayout.{pointerOf}
+use Rattle.cursor_layout.specs.PictureLayout.{pictureOf}
+use Rattle.host_answers.specs.Answers.{short}
 use Rattle.cursor_calls.specs.CursorCalls.{Positioned, afterPosition, positionLeft, cursorPosition, recordsWhole, Stored, afterStore, storeLeft, allLeft, cursorStore, PositionRefusalKeeps, StoreRefusalKeeps}
 
 module _ (ps packet : List ℕ) where

@@ -2,8 +2,8 @@
 use mathlib.Core.Path.{refl, sym, _∙_}
 use borrow.Author.Tests.{eq-eqb, ne-eqb, not-true, not-false}
 use denote.Ref.{now}
-use Rattle.cursor_records.specs.PointerRecord.{pointerOf}
-use Rattle.cursor_records.specs.PictureRecord.{pictureOf}
+use Rattle.cursor_layout.specs.PointerLayout.{pointerOf}
+use Rattle.cursor_layout.specs.PictureLayout.{pictureOf}
 use Rattle.cursor.proofs.Laws.Assembling.{stored-accepted, stored-refused}
 use Rattle.cursor_calls.proofs.Laws.CursorCalls.{store-short, store-answered}
 use borrow.Author.Needs.{needs}

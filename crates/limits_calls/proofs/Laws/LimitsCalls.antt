@@ -13,10 +13,10 @@ use Rattle.limits.specs.declared.value.Written.{Written}
 use Rattle.limits.specs.Reading.{readValue}
 use Rattle.limits.specs.Word.{copied}
 use Rattle.limits.specs.Writing.{spelling, writeAnswer}
-use Rattle.limits_record.specs.LimitsRecord.{limitsBytes, limitsIn}
+use Rattle.limits_layout.specs.LimitsLayout.{limitsBytes, limitsIn}
 use Rattle.little_endian.proofs.Laws.Layout.{laid-short}
-use Rattle.limits_record.proofs.Laws.LimitsRecord.{length-limits}
-use Rattle.answers.specs.Answers.{short}
+use Rattle.limits_layout.proofs.Laws.LimitsLayout.{length-limits}
+use Rattle.host_answers.specs.Answers.{short}
 use Rattle.limits_calls.specs.LimitsCalls.{answerOf, readAnswer, recordOf, readRecord, notWritten, writtenOf, limitsWritten, limitsOutput}
 
 module _ (s xs : List ℕ) where

@@ -15,11 +15,11 @@ use Rattle.message_reader.specs.Reading.{commandIn, readMessage}
 use Rattle.wire.specs.Number.{number}
 use Rattle.message_writer.specs.Writing.{writeAnswer, output}
 use Rattle.message.specs.Accessors.{sourceOf}
-use Rattle.message_record.specs.MessageRecord.{messageBytes, messageIn}
+use Rattle.message_layout.specs.MessageLayout.{messageBytes, messageIn}
 use Rattle.little_endian.proofs.Laws.Layout.{laid-short}
-use Rattle.message_record.proofs.Laws.MessageRecord.{length-message}
-use Rattle.answers.specs.declared.Yes.{Yes}
-use Rattle.answers.specs.Answers.{short}
+use Rattle.message_layout.proofs.Laws.MessageLayout.{length-message}
+use Rattle.host_answers.specs.declared.Yes.{Yes}
+use Rattle.host_answers.specs.Answers.{short}
 use Rattle.message_calls.specs.MessageCalls.{answerOf, readAnswer, recordOf, readRecord, notWritten, writtenOf, messageWritten, messageOutput}
 use Rattle.message_calls.specs.MessageCalls.{noAnswer, sourceAnswer, sourceCopied, sourceLent}
 

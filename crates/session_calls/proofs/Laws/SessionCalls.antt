@@ -22,7 +22,7 @@ use Rattle.session.specs.Runs.{Event, stepped, next}
 use Rattle.session.proofs.Laws.Runs.{refusal-keeps}
 use Rattle.session.specs.Step.{stepOf}
 use Rattle.session.specs.Message.{afterRead, onMessage}
-use Rattle.session_record.specs.SessionRecord.{stateNumber, sessionOf}
+use Rattle.session_layout.specs.SessionLayout.{stateNumber, sessionOf}
 use Rattle.session_calls.specs.SessionCalls.{after, shortStep, answerOf, bytesLeft, leftBy, sourceIn, taken, sessionStep, sessionMessage, KeptIfRefused, StepRefusalKeeps, MessageRefusalKeeps}
 
 module _ (xs : List ℕ) (event : ℕ) (source : List ℕ) (options : ℕ) where

@@ -1,0 +1,2 @@
+pub mod PictureLayout
+pub mod PointerLayout

@@ -1,0 +1,80 @@
+-- A shorter slice is left alone; else each number stands after the one before. Assumes nothing.
+use mathlib.Core.Path.{sym, ap, _∙_}
+use mir.Syntax.{w16}
+use mir.Val.{SFits}
+use mir.ValLaws.{toZ-ofZ}
+use native.Mathlib.Omega.{arith}
+use denote.Ref.{now}
+use Rattle.wire.specs.Signed.{unsigned}
+use Rattle.little_endian.specs.Little.{bytes}
+use Rattle.cursor_layout.specs.PointerLayout.{pointerBytes}
+use Rattle.little_endian.proofs.Laws.Layout.{nothing, next, next-as, whole, laid-short, flag-byte}
+use borrow.Author.Needs.{needs}
+use Rattle.cursor_layout.proofs.pointer_layout.write.Statement.{statement}
+use Rattle.cursor_layout.proofs.pointer_layout.write.Tie as tie
+
+returns : tie.Need-returns
+unfolding pointerBytes bytes
+returns c =
+    let a = c .before .before .args in
+    sym (laid-short (pointerBytes (a .pointer)) (now (a .«record»)) (c .if1 .taken))
+
+cast-put-u8 : tie.Need-cast-put-u8
+cast-put-u8 c = search needs
+
+put-u8-requires : tie.Need-put-u8-requires
+put-u8-requires c κs = search needs
+
+put-u16-requires : tie.Need-put-u16-requires
+put-u16-requires c κs = search needs
+
+unsigned16-requires : tie.Need-unsigned16-requires
+unsigned16-requires c κs = search needs
+
+put-u16-requires-2 : tie.Need-put-u16-requires-2
+put-u16-requires-2 c κs = search needs
+
+unsigned16-requires-2 : tie.Need-unsigned16-requires-2
+unsigned16-requires-2 c κs = search needs
+
+put-u16-requires-3 : tie.Need-put-u16-requires-3
+put-u16-requires-3 c κs = search needs
+
+same-length : tie.Need-same-length
+same-length c = search needs
+
+x-fits : (c : tie.After-struct-told) → SFits w16 (c .before .before .before .before .before .before .before .before .before .before .before .before .before .args .pointer .x)
+x-fits c = search needs
+
+y-fits : (c : tie.After-struct-told2) → SFits w16 (c .before .before .before .before .before .before .before .before .before .before .before .before .before .before .before .before .before .before .before .args .pointer .y)
+y-fits c = search needs
+
+returns-2 : tie.Need-returns-2
+unfolding pointerBytes
+returns-2 c =
+    let y = c .before .before in
+    let x = y .before .before .before .before .before .before in
+    let s = x .before .before .before .before .before .before in
+    let k = s .before .before .before .before in
+    let a = k .before .before .before .before .before .args in
+    let xs = now (a .«record») in
+    let known = next-as (nothing 0 xs) 1 _ (flag-byte (a .pointer .known)) (k .put-u8 .ensures .1) (omega arith) in
+    let sequence = next known 2 _ (s .put-u16 .ensures .1) (omega arith) in
+    let across = next-as sequence 2 _ (x .before .unsigned16 .ensures ∙ ap (unsigned 2) (toZ-ofZ w16 (a .pointer .x) (x-fits (x .before .before)))) (x .put-u162 .ensures .1) (omega arith) in
+    let down = next-as across 2 _ (y .before .unsigned162 .ensures ∙ ap (unsigned 2) (toZ-ofZ w16 (a .pointer .y) (y-fits (y .before .before)))) (y .put-u163 .ensures .1) (omega arith) in
+    whole down (omega arith)
+
+pub write-spec : {M : Type 1} → statement M
+write-spec =
+    tie.close
+    (tie.spec
+    returns
+    cast-put-u8
+    put-u8-requires
+    put-u16-requires
+    unsigned16-requires
+    put-u16-requires-2
+    unsigned16-requires-2
+    put-u16-requires-3
+    same-length
+    returns-2)

@@ -1,2 +1,0 @@
-pub mod PictureRecord
-pub mod PointerRecord

@@ -1,0 +1,70 @@
+// What the calls for hosts answer: the status (0 accepted, else the refusal number of 01), and what belongs to it.
+ghost use mathlib.Core.Path.{_≡_};
+ghost use Rattle.host_answers.specs.Answers.{accepted, refused};
+ghost use Rattle.host_answers.specs.Fresh.{freshAnswer};
+use wire::status;
+use wire::status::Status;
+
+// Of a reader and of the calls for cursor packets: the place of a refusal.
+#[repr(C)]
+pub struct Answer {
+    pub status: u8,
+    pub place: usize,
+}
+
+// Of a writer: the number of bytes written, 0 where it refused.
+#[repr(C)]
+pub struct Written {
+    pub status: u8,
+    pub size: usize,
+}
+
+// Of a step of the session: whether the host shall check the PIN, and the place of a refusal.
+#[repr(C)]
+pub struct Step {
+    pub status: u8,
+    pub check: bool,
+    pub place: usize,
+}
+
+// A number asked for, 0 where there is none.
+#[repr(C)]
+pub struct Number {
+    pub status: u8,
+    pub value: u16,
+}
+
+// A question answered by yes or no; no where it is refused.
+#[repr(C)]
+pub struct Yes {
+    pub status: u8,
+    pub yes: bool,
+}
+
+pub fn accept() -> Answer
+    ensures { λ r. ⌜ r ≡ accepted ⌝ }
+{
+    Answer {
+        status: status::number(Status::Accepted),
+        place: 0,
+    }
+}
+
+pub fn refuse(status: Status, place: usize) -> Answer
+    ensures { λ r. ⌜ r ≡ refused status place ⌝ }
+{
+    Answer {
+        status: status::number(status),
+        place,
+    }
+}
+
+// The answer of a call that writes a fresh record: 0, or 10 where fewer bytes are lent than the record needs.
+pub fn fresh_answer(lent: usize, needed: usize) -> u8
+    ensures { λ r. ⌜ r ≡ freshAnswer needed lent ⌝ }
+{
+    if lent < needed {
+        return status::number(Status::NoRoom);
+    }
+    status::number(Status::Accepted)
+}

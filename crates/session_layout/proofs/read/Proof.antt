@@ -1,0 +1,39 @@
+-- Each number is the one that the definition reads at its place. Assumes nothing.
+use Rattle.session_layout.specs.SessionLayout.{sessionOf}
+use borrow.Author.Needs.{needs}
+use Rattle.session_layout.proofs.read.Statement.{statement}
+use Rattle.session_layout.proofs.read.Tie as tie
+
+u8-at-requires : tie.Need-u8-at-requires
+u8-at-requires c κs = search needs
+
+state-of-requires : tie.Need-state-of-requires
+state-of-requires c κs = search needs
+
+u8-at-requires-2 : tie.Need-u8-at-requires-2
+u8-at-requires-2 c κs = search needs
+
+u8-at-requires-3 : tie.Need-u8-at-requires-3
+u8-at-requires-3 c κs = search needs
+
+source-at-requires : tie.Need-source-at-requires
+source-at-requires c κs = search needs
+
+returns : tie.Need-returns
+unfolding sessionOf
+returns c =
+    let p = c .before in
+    let o = p .before in
+    let s = o .before in
+    rw (c .source-at .ensures, p .u8-at3 .ensures, o .u8-at2 .ensures, s .state-of .ensures, s .before .u8-at .ensures)
+
+pub read-spec : {M : Type 1} → statement M
+read-spec =
+    tie.close
+    (tie.spec
+    u8-at-requires
+    state-of-requires
+    u8-at-requires-2
+    u8-at-requires-3
+    source-at-requires
+    returns)

@@ -1,0 +1,69 @@
+-- A shorter slice is left alone; else each number stands after the one before, and the Source ID after them. Assumes nothing.
+use mathlib.Core.Path.{_≡_, sym}
+use native.Mathlib.Omega.{arith}
+use lib.ListN.{length}
+use denote.Ref.{now}
+use Rattle.session_layout.specs.SessionLayout.{sessionBytes}
+use Rattle.little_endian.proofs.Laws.Layout.{nothing, next, next-as, next-part, whole, laid-short, flag-byte}
+use Rattle.session_layout.proofs.Laws.SessionLayout.{session-length}
+use borrow.Author.Needs.{needs}
+use Rattle.session_layout.proofs.write.Statement.{statement}
+use Rattle.session_layout.proofs.write.Tie as tie
+
+returns : tie.Need-returns
+returns c =
+    let a = c .before .before .args in
+    let l : length (sessionBytes (a .session)) ≡ 19 = session-length (a .session) (search needs) in
+    sym (laid-short (sessionBytes (a .session)) (now (a .«record»)) (omega arith))
+
+number-of-requires : tie.Need-number-of-requires
+number-of-requires c κs = search needs
+
+put-u8-requires : tie.Need-put-u8-requires
+put-u8-requires c κs = search needs
+
+put-u8-requires-2 : tie.Need-put-u8-requires-2
+put-u8-requires-2 c κs = search needs
+
+cast-put-u8 : tie.Need-cast-put-u8
+cast-put-u8 c = search needs
+
+put-u8-requires-3 : tie.Need-put-u8-requires-3
+put-u8-requires-3 c κs = search needs
+
+put-id-requires : tie.Need-put-id-requires
+put-id-requires c κs = search needs
+
+same-length : tie.Need-same-length
+same-length c = search needs
+
+sixteen : (c : tie.After-id) → length (c .before .before .before .before .args .session .source .bytes) ≡ 16
+sixteen c = search needs
+
+returns-2 : tie.Need-returns-2
+unfolding sessionBytes
+returns-2 c =
+    let i = c .before .before in
+    let p = i .before .before .before .before .before in
+    let o = p .before .before .before .before .before in
+    let n = o .before .before .before .before in
+    let a = n .before .before .before .before .before .before .before .args in
+    let xs = now (a .«record») in
+    let state = next-as (nothing 0 xs) 1 _ (n .before .number-of .ensures) (n .put-u8 .ensures .1) (omega arith) in
+    let options = next state 1 _ (o .put-u82 .ensures .1) (omega arith) in
+    let present = next-as options 1 _ (flag-byte (a .session .source .present)) (p .put-u83 .ensures .1) (omega arith) in
+    whole (next-part present (a .session .source .bytes) 16 (sixteen (n .before .before .before)) (i .put-id .ensures) (omega arith)) (omega arith)
+
+pub write-spec : {M : Type 1} → statement M
+write-spec =
+    tie.close
+    (tie.spec
+    returns
+    number-of-requires
+    put-u8-requires
+    put-u8-requires-2
+    cast-put-u8
+    put-u8-requires-3
+    put-id-requires
+    same-length
+    returns-2)
