@@ -1,8 +1,8 @@
 // The calls of the cursor stream, for hosts.
 ghost use mathlib.Core.Path.{_≡_};
 ghost use lib.ListN.{length};
-ghost use Rattle.pointer.specs.Pointer.{freshPointer};
-ghost use Rattle.picture.specs.Picture.{freshPicture};
+ghost use Rattle.cursor_pointer.specs.Pointer.{freshPointer};
+ghost use Rattle.cursor_picture.specs.Picture.{freshPicture};
 ghost use Rattle.little_endian.specs.Layout.{laid};
 ghost use Rattle.cursor_layout.specs.PointerLayout.{pointerBytes};
 ghost use Rattle.cursor_layout.specs.PictureLayout.{pictureBytes};

@@ -7,16 +7,16 @@ use lib.Dec.{leb}
 use lib.ListN.{length}
 use Rattle.wire.specs.declared.status.Status.the-variants as status
 use Rattle.wire.specs.Status.{numberOf}
-use Rattle.pointer.specs.declared.PointerAnswer.{PointerAnswer}
-use Rattle.pointer.specs.declared.PointerAnswer.the-variants as position
-use Rattle.pointer.specs.Pointer.{positioned}
-use Rattle.picture.specs.declared.completeness.CompleteAnswer.{CompleteAnswer}
-use Rattle.picture.specs.declared.completeness.CompleteAnswer.the-variants as complete
-use Rattle.picture.specs.Completeness.{completeness}
-use Rattle.cursor.specs.declared.storing.StoreAnswer.{StoreAnswer}
-use Rattle.cursor.specs.declared.storing.StoreAnswer.the-variants as store
-use Rattle.cursor.specs.Storing as storing
-use Rattle.cursor.specs.Storing.{stored}
+use Rattle.cursor_pointer.specs.declared.PointerAnswer.{PointerAnswer}
+use Rattle.cursor_pointer.specs.declared.PointerAnswer.the-variants as position
+use Rattle.cursor_pointer.specs.Pointer.{positioned}
+use Rattle.cursor_picture.specs.declared.completeness.CompleteAnswer.{CompleteAnswer}
+use Rattle.cursor_picture.specs.declared.completeness.CompleteAnswer.the-variants as complete
+use Rattle.cursor_picture.specs.Completeness.{completeness}
+use Rattle.cursor_store.specs.declared.storing.StoreAnswer.{StoreAnswer}
+use Rattle.cursor_store.specs.declared.storing.StoreAnswer.the-variants as store
+use Rattle.cursor_store.specs.Storing as storing
+use Rattle.cursor_store.specs.Storing.{stored}
 use Rattle.little_endian.specs.Layout.{laid}
 use Rattle.cursor_layout.specs.PointerLayout.{pointerBytes, pointerOf}
 use Rattle.cursor_layout.specs.PictureLayout.{pictureBytes, pictureOf}

@@ -1,8 +1,8 @@
 // The calls of the cursor stream over lent records. Crate ashlarsilk exports each, and says there in words what a host gets.
 ghost use mathlib.Core.Path.{_≡_};
 ghost use lib.ListN.{length};
-ghost use Rattle.pointer.specs.Pointer.{freshPointer};
-ghost use Rattle.picture.specs.Picture.{freshPicture};
+ghost use Rattle.cursor_pointer.specs.Pointer.{freshPointer};
+ghost use Rattle.cursor_picture.specs.Picture.{freshPicture};
 ghost use Rattle.little_endian.specs.Layout.{laid};
 ghost use Rattle.cursor_layout.specs.PointerLayout.{pointerBytes};
 ghost use Rattle.cursor_layout.specs.PictureLayout.{pictureBytes};
@@ -12,12 +12,12 @@ use host_answers::Answer;
 use host_answers::Yes;
 use host_answers::accept;
 use host_answers::refuse;
-use cursor::storing;
+use cursor_store::storing;
 use cursor_layout::picture_layout;
 use cursor_layout::pointer_layout;
-use picture::Picture;
-use picture::completeness::CompleteAnswer;
-use pointer::Pointer;
+use cursor_picture::Picture;
+use cursor_picture::completeness::CompleteAnswer;
+use cursor_pointer::Pointer;
 use wire::status;
 use wire::status::Status;
 
@@ -46,7 +46,7 @@ pub fn position(pointer: &mut [u8], packet: &[u8]) -> Answer
     if pointer.len() < pointer_layout::LENGTH {
         return refuse(Status::NoRoom, 0);
     }
-    let after = pointer::take(pointer_layout::read(pointer), packet);
+    let after = cursor_pointer::take(pointer_layout::read(pointer), packet);
     let status = after.status;
     let set = after.pointer;
     if status::number(status) != 0 {
@@ -121,5 +121,5 @@ pub fn complete(picture: &[u8], image: &[u8], marks: &[u8]) -> Yes
             place: 0,
         });
     }
-    answered(picture::complete(picture_layout::read(picture), image, marks))
+    answered(cursor_picture::complete(picture_layout::read(picture), image, marks))
 }

@@ -5,7 +5,7 @@ use mathlib.Core.List.{List, _++_}
 use lib.ListN.{length}
 use lib.Signed.{mag}
 use Rattle.wire.specs.Signed.{signed, unsigned}
-use Rattle.pointer.specs.declared.Pointer.{Pointer}
+use Rattle.cursor_pointer.specs.declared.Pointer.{Pointer}
 use Rattle.little_endian.specs.Layout.{flag, isSet, laid}
 use Rattle.little_endian.specs.Little.{numberAt, bytes}
 

@@ -15,14 +15,14 @@ ghost use lib.ListN.{length};
 ghost use Rattle.wire.specs.Splice.{splice};
 ghost use Rattle.little_endian.specs.Layout.{laid};
 ghost use Rattle.cursor_layout.specs.PictureLayout.{startBytes, pictureBytes, pictureOf};
-use fragment::start::Start;
+use cursor_fragment::start::Start;
 use little_endian::put_u8;
 use little_endian::put_u16;
 use little_endian::put_u32;
 use little_endian::u8_at;
 use little_endian::u16_at;
 use little_endian::u32_at;
-use picture::Picture;
+use cursor_picture::Picture;
 
 pub const LENGTH: usize = 15;
 

@@ -12,7 +12,7 @@ use little_endian::put_u8;
 use little_endian::put_u16;
 use little_endian::u8_at;
 use little_endian::u16_at;
-use pointer::Pointer;
+use cursor_pointer::Pointer;
 use wire::signed::signed16;
 use wire::signed::unsigned16;
 

@@ -1,4 +1,4 @@
--- What the calls of the cursor limits value answer, and what the lent bytes then hold: by the definitions of the value (crate limits) and of
+-- What the calls of the cursor limits value answer, and what the lent bytes then hold: by the definitions of the value (crate cursor_limits) and of
 -- its record as bytes (crate limits_layout). s are the bytes of a text, xs those of a record. Assumes nothing.
 use Prim.Native.Nat.{ℕ}
 use mathlib.Core.List.{List}
@@ -8,13 +8,13 @@ use lib.ListN.{length}
 use Rattle.wire.specs.declared.status.Status.{Status}
 use Rattle.wire.specs.declared.status.Status.the-variants as status
 use Rattle.wire.specs.Status.{numberOf}
-use Rattle.limits.specs.declared.value.Answer.{Answer as ReaderAnswer}
-use Rattle.limits.specs.declared.value.Answer.the-variants as reader
-use Rattle.limits.specs.declared.value.Written.{Written as WriterAnswer}
-use Rattle.limits.specs.declared.value.Written.the-variants as writer
-use Rattle.limits.specs.Reading.{readValue}
-use Rattle.limits.specs.Word.{copied}
-use Rattle.limits.specs.Writing.{spelling, writeAnswer}
+use Rattle.cursor_limits.specs.declared.value.Answer.{Answer as ReaderAnswer}
+use Rattle.cursor_limits.specs.declared.value.Answer.the-variants as reader
+use Rattle.cursor_limits.specs.declared.value.Written.{Written as WriterAnswer}
+use Rattle.cursor_limits.specs.declared.value.Written.the-variants as writer
+use Rattle.cursor_limits.specs.Reading.{readValue}
+use Rattle.cursor_limits.specs.Word.{copied}
+use Rattle.cursor_limits.specs.Writing.{spelling, writeAnswer}
 use Rattle.little_endian.specs.Layout.{laid}
 use Rattle.limits_layout.specs.LimitsLayout.{limitsBytes, limitsIn}
 use Rattle.host_answers.specs.declared.Answer.{Answer}

@@ -5,7 +5,7 @@ use host_answers::Answer;
 use host_answers::Written;
 use host_answers::accept;
 use host_answers::refuse;
-use limits::value;
+use cursor_limits::value;
 use wire::status;
 use wire::status::Status;
 
@@ -17,7 +17,7 @@ pub fn read(text: &[u8], record: &mut [u8]) -> Answer
     if record.len() < limits_layout::LENGTH {
         return refuse(Status::NoRoom, 0);
     }
-    match limits::read(text) {
+    match cursor_limits::read(text) {
         value::Answer::Accepted(found) => {
             limits_layout::write(record, found);
             accept()
@@ -37,7 +37,7 @@ pub fn write(record: &[u8], out: &mut [u8]) -> Written
             size: 0,
         };
     }
-    match limits::write(limits_layout::read(record), out) {
+    match cursor_limits::write(limits_layout::read(record), out) {
         value::Written::Accepted(size) => Written { status: 0, size },
         value::Written::Refused { status, place } => Written {
             status: status::number(status),

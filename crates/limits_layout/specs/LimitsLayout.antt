@@ -5,10 +5,10 @@ use mathlib.Core.List.{List, _++_}
 use mathlib.Core.Bool.{cond}
 use lib.Dec.{eqb}
 use lib.ListN.{length}
-use Rattle.limits.specs.declared.value.Xor.{Xor}
-use Rattle.limits.specs.declared.value.Xor.the-variants as xor
-use Rattle.limits.specs.declared.value.Value.{Value}
-use Rattle.limits.specs.declared.value.Value.the-variants as value
+use Rattle.cursor_limits.specs.declared.value.Xor.{Xor}
+use Rattle.cursor_limits.specs.declared.value.Xor.the-variants as xor
+use Rattle.cursor_limits.specs.declared.value.Value.{Value}
+use Rattle.cursor_limits.specs.declared.value.Value.the-variants as value
 use Rattle.little_endian.specs.Layout.{laid}
 use Rattle.little_endian.specs.Little.{numberAt, bytes}
 

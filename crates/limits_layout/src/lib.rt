@@ -10,9 +10,9 @@
 ghost use mathlib.Core.Path.{_≡_};
 ghost use Rattle.little_endian.specs.Layout.{laid};
 ghost use Rattle.limits_layout.specs.LimitsLayout.{xorByte, xorOf, numberBytes, limitsBytes, limitsIn};
-use limits::value::Limits;
-use limits::value::Value;
-use limits::value::Xor;
+use cursor_limits::value::Limits;
+use cursor_limits::value::Value;
+use cursor_limits::value::Xor;
 use little_endian::put_u8;
 use little_endian::put_u16;
 use little_endian::u8_at;

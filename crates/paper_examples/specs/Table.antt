@@ -25,18 +25,18 @@ use Rattle.session_table.specs.Source.{carried, otherSource}
 use Rattle.session_table.specs.Table.{isEvent}
 use Rattle.session.specs.declared.step.Stepped.{Stepped}
 use Rattle.session.specs.Step.{optionsFrom, sourceAfter, accepted, stepOf}
-use Rattle.packet.specs.declared.position.PositionAnswer.{PositionAnswer}
-use Rattle.packet.specs.declared.position.PositionAnswer.the-variants as positioned
-use Rattle.packet.specs.Checks.{firstOf}
-use Rattle.packet.specs.Rtp.{unusedZero, rtpHolds}
-use Rattle.packet.specs.Frame.{frameChecks}
-use Rattle.packet.specs.Position.{positionChecks, positionOf, readPosition}
-use Rattle.fragment.specs.Continuation.{continuationOf}
-use Rattle.fragment.specs.Fragment.{takesType, headerOf as fragmentHeader, imageData, offsetOf, outside, fragmentFrame, fragmentChecks, fragmentStatus}
-use Rattle.limits.specs.declared.hex.Digits.{Digits}
-use Rattle.limits.specs.declared.hex.Digits.the-variants as hexadecimal
-use Rattle.limits.specs.Range.{within}
-use Rattle.limits.specs.Hex.{digitValue, isDigit, number as hexNumber, readDigits}
+use Rattle.cursor_packet.specs.declared.position.PositionAnswer.{PositionAnswer}
+use Rattle.cursor_packet.specs.declared.position.PositionAnswer.the-variants as positioned
+use Rattle.cursor_packet.specs.Checks.{firstOf}
+use Rattle.cursor_packet.specs.Rtp.{unusedZero, rtpHolds}
+use Rattle.cursor_packet.specs.Frame.{frameChecks}
+use Rattle.cursor_packet.specs.Position.{positionChecks, positionOf, readPosition}
+use Rattle.cursor_fragment.specs.Continuation.{continuationOf}
+use Rattle.cursor_fragment.specs.Fragment.{takesType, headerOf as fragmentHeader, imageData, offsetOf, outside, fragmentFrame, fragmentChecks, fragmentStatus}
+use Rattle.cursor_limits.specs.declared.hex.Digits.{Digits}
+use Rattle.cursor_limits.specs.declared.hex.Digits.the-variants as hexadecimal
+use Rattle.cursor_limits.specs.Range.{within}
+use Rattle.cursor_limits.specs.Hex.{digitValue, isDigit, number as hexNumber, readDigits}
 
 -- A, the message of the table, after its Size: Version, Command, a Friendly Name, the RTSP Port 1C44, a Source ID of sixteen bytes 07
 afterSize : List ℕ

@@ -3,12 +3,12 @@
 // at. The picture and its marks have 40 places. A line for each 16 calls: their numbers (for the completeness question 100 no, 101 yes), then
 // a sum over both records, the picture and the marks.
 ghost use Prim.Native.Nat.{_<_};
-use cursor::storing::StoreAnswer;
+use cursor_store::storing::StoreAnswer;
 use libc::STDOUT_FILENO;
-use picture::Picture;
-use picture::completeness::CompleteAnswer;
-use pointer::Pointer;
-use pointer::PointerAnswer;
+use cursor_picture::Picture;
+use cursor_picture::completeness::CompleteAnswer;
+use cursor_pointer::Pointer;
+use cursor_pointer::PointerAnswer;
 use wire::number;
 use wire::signed;
 use wire::status;
@@ -97,7 +97,7 @@ fn counted(state: State) -> State {
 fn call_position(state: State, packet: &[u8]) -> State {
     let pointer = state.pointer;
     let mut next = state;
-    match pointer::position(pointer, packet) {
+    match cursor_pointer::position(pointer, packet) {
         PointerAnswer::Accepted(moved) => {
             print_number(0);
             next.pointer = moved;
@@ -114,7 +114,7 @@ fn call_store(state: State, packet: &[u8]) -> State {
     let picture = state.picture;
     let mut image = state.image;
     let mut marks = state.marks;
-    match cursor::store(pointer, picture, packet, &mut image, &mut marks) {
+    match cursor_store::store(pointer, picture, packet, &mut image, &mut marks) {
         StoreAnswer::Accepted(stored, moved) => {
             print_number(0);
             State {
@@ -144,7 +144,7 @@ fn call_complete(state: State) {
     let picture = state.picture;
     let image = state.image;
     let marks = state.marks;
-    match picture::complete(picture, &image, &marks) {
+    match cursor_picture::complete(picture, &image, &marks) {
         CompleteAnswer::Yes => print_number(101),
         CompleteAnswer::No => print_number(100),
         CompleteAnswer::Refused { status, place } => print_number(status::number(status) as u64),

@@ -1,13 +1,13 @@
 // Runs the calls of `pointer`, `cursor` and `picture` and prints a line a call: the call, the paper's number of its status, and what then
 // stands in the records, in five bytes of the picture and in the marks beside them. The packets are P9 and P10 of 01, those of 003 section 4,
 // and orders, repeats and refusals of a small picture.
-use cursor::storing::StoreAnswer;
-use fragment::start::Start;
+use cursor_store::storing::StoreAnswer;
+use cursor_fragment::start::Start;
 use libc::STDOUT_FILENO;
-use picture::Picture;
-use picture::completeness::CompleteAnswer;
-use pointer::Pointer;
-use pointer::PointerAnswer;
+use cursor_picture::Picture;
+use cursor_picture::completeness::CompleteAnswer;
+use cursor_pointer::Pointer;
+use cursor_pointer::PointerAnswer;
 use scan::bytes;
 use wire::number;
 use wire::signed;
@@ -92,7 +92,7 @@ fn print_five(s: &[u8], step: usize) {
 
 fn call_position(pointer: Pointer, packet: &[u8]) -> Pointer {
     print(b"position");
-    let next = match pointer::position(pointer, packet) {
+    let next = match cursor_pointer::position(pointer, packet) {
         PointerAnswer::Accepted(moved) => {
             print_status(Status::Accepted);
             moved
@@ -140,7 +140,7 @@ fn call_store(
     print(b"store");
     let pointer = records.pointer;
     let picture = records.picture;
-    let answer = cursor::store(pointer, picture, packet, image, marks);
+    let answer = cursor_store::store(pointer, picture, packet, image, marks);
     let next = records_after(answer, records);
     print_records(next);
     print(b" bytes");
@@ -154,7 +154,7 @@ fn call_store(
 fn call_complete(records: Records, image: &[u8], marks: &[u8]) {
     print(b"complete");
     let picture = records.picture;
-    match picture::complete(picture, image, marks) {
+    match cursor_picture::complete(picture, image, marks) {
         CompleteAnswer::Yes => print(b" yes"),
         CompleteAnswer::No => print(b" no"),
         CompleteAnswer::Refused { status, place } => print_status(status),

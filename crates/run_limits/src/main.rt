@@ -1,10 +1,10 @@
 // Writes each of the 65,536 numbers of each field and reads it back; then reads spellings, good and bad, and shows what they mean.
 ghost use Prim.Native.Nat.{_≤_};
 use libc::STDOUT_FILENO;
-use limits::value::Answer;
-use limits::value::Limits;
-use limits::value::Value;
-use limits::value::Xor;
+use cursor_limits::value::Answer;
+use cursor_limits::value::Limits;
+use cursor_limits::value::Value;
+use cursor_limits::value::Xor;
 
 // The fields of a value.
 enum Field {
@@ -62,8 +62,8 @@ fn same(a: Limits, b: Limits) -> bool {
 // Whether the limits, written and read, come back the same.
 fn comes_back(limits: Limits) -> bool {
     let mut text = [0u8; 19];
-    limits::write(Value::Supported(limits), &mut text);
-    let Answer::Accepted(value) = limits::read(&text) else {
+    cursor_limits::write(Value::Supported(limits), &mut text);
+    let Answer::Accepted(value) = cursor_limits::read(&text) else {
         return false;
     };
     match value {
@@ -135,7 +135,7 @@ fn show(text: &[u8]) {
     io::write_all(STDOUT_FILENO, b"\"");
     io::write_all(STDOUT_FILENO, text);
     io::write_all(STDOUT_FILENO, b"\" ");
-    show_answer(limits::read(text));
+    show_answer(cursor_limits::read(text));
     io::write_all(STDOUT_FILENO, b"\n");
 }
 

@@ -1,10 +1,10 @@
 // The cursor limits values of 003 section 4: the line as printed, the same in the grammar of section 1.7 (50,001 is C351 hex), and `none`.
 use crate::print::number;
 use crate::print::text;
-use limits::value::Answer;
-use limits::value::Limits;
-use limits::value::Value;
-use limits::value::Xor;
+use cursor_limits::value::Answer;
+use cursor_limits::value::Limits;
+use cursor_limits::value::Value;
+use cursor_limits::value::Xor;
 use wire::status;
 
 fn supported(limits: Limits) {
@@ -31,7 +31,7 @@ fn accepted(value: Value) {
 
 fn show(name: &[u8], bytes: &[u8]) {
     text(name);
-    match limits::read(bytes) {
+    match cursor_limits::read(bytes) {
         Answer::Accepted(value) => accepted(value),
         Answer::Refused { status, place } => {
             text(b" refused ");

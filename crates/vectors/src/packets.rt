@@ -2,11 +2,11 @@
 // no image: here the sequence numbers are 0, 1 and 2, and the halves of the image are 65 and 66.
 use crate::print::number;
 use crate::print::text;
-use cursor::storing::StoreAnswer;
-use picture::Picture;
-use picture::completeness::CompleteAnswer;
-use pointer::Pointer;
-use pointer::PointerAnswer;
+use cursor_store::storing::StoreAnswer;
+use cursor_picture::Picture;
+use cursor_picture::completeness::CompleteAnswer;
+use cursor_pointer::Pointer;
+use cursor_pointer::PointerAnswer;
 use scan::bytes;
 use wire::signed;
 use wire::status;
@@ -50,7 +50,7 @@ fn show_picture(picture: Picture) {
 
 fn position(pointer: Pointer, packet: &[u8]) -> Pointer {
     text(b"003-4-position");
-    match pointer::position(pointer, packet) {
+    match cursor_pointer::position(pointer, packet) {
         PointerAnswer::Accepted(moved) => {
             text(b" accepted");
             show_pointer(moved);
@@ -68,7 +68,7 @@ fn show_complete(state: State) {
     let picture = state.picture;
     let image = state.image;
     let marks = state.marks;
-    match picture::complete(picture, &image, &marks) {
+    match cursor_picture::complete(picture, &image, &marks) {
         CompleteAnswer::Yes => text(b" complete yes\n"),
         CompleteAnswer::No => text(b" complete no\n"),
         CompleteAnswer::Refused { status, place } => refused(status),
@@ -81,7 +81,7 @@ fn store(name: &[u8], state: State, packet: &[u8]) -> State {
     let picture = state.picture;
     let mut image = state.image;
     let mut marks = state.marks;
-    match cursor::store(pointer, picture, packet, &mut image, &mut marks) {
+    match cursor_store::store(pointer, picture, packet, &mut image, &mut marks) {
         StoreAnswer::Accepted(stored, moved) => {
             let next = State {
                 pointer: moved,

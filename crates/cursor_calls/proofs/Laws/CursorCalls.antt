@@ -8,17 +8,17 @@ use lib.Dec.{leb}
 use lib.ListN.{length}
 use Rattle.wire.specs.declared.status.Status.{Status}
 use Rattle.wire.proofs.Laws.Bool.{by-test}
-use Rattle.packet.specs.Checks.{accepted}
-use Rattle.fragment.specs.declared.Fragment.{Fragment}
-use Rattle.pointer.specs.declared.Pointer.{Pointer}
-use Rattle.pointer.specs.declared.PointerAnswer.{PointerAnswer}
-use Rattle.pointer.specs.declared.PointerAnswer.the-variants as position
-use Rattle.pointer.specs.Pointer.{positioned}
-use Rattle.picture.specs.declared.Picture.{Picture}
-use Rattle.cursor.specs.declared.storing.StoreAnswer.{StoreAnswer}
-use Rattle.cursor.specs.declared.storing.StoreAnswer.the-variants as store
-use Rattle.cursor.specs.Storing as storing
-use Rattle.cursor.specs.Storing.{outcome, stored}
+use Rattle.cursor_packet.specs.Checks.{accepted}
+use Rattle.cursor_fragment.specs.declared.Fragment.{Fragment}
+use Rattle.cursor_pointer.specs.declared.Pointer.{Pointer}
+use Rattle.cursor_pointer.specs.declared.PointerAnswer.{PointerAnswer}
+use Rattle.cursor_pointer.specs.declared.PointerAnswer.the-variants as position
+use Rattle.cursor_pointer.specs.Pointer.{positioned}
+use Rattle.cursor_picture.specs.declared.Picture.{Picture}
+use Rattle.cursor_store.specs.declared.storing.StoreAnswer.{StoreAnswer}
+use Rattle.cursor_store.specs.declared.storing.StoreAnswer.the-variants as store
+use Rattle.cursor_store.specs.Storing as storing
+use Rattle.cursor_store.specs.Storing.{outcome, stored}
 use Rattle.cursor_layout.specs.PointerLayout.{pointerOf}
 use Rattle.cursor_layout.specs.PictureLayout.{pictureOf}
 use Rattle.host_answers.specs.Answers.{short}

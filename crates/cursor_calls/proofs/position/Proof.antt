@@ -4,7 +4,7 @@ use native.Mathlib.Omega.{arith}
 use denote.Ref.{now}
 use borrow.Author.Tests.{eq-eqb, ne-eqb}
 use borrow.Author.Needs.{needs}
-use Rattle.pointer.proofs.Laws.Pointer.{positioned-accepted, positioned-refused}
+use Rattle.cursor_pointer.proofs.Laws.Pointer.{positioned-accepted, positioned-refused}
 use Rattle.cursor_layout.specs.PointerLayout.{pointerOf}
 use Rattle.cursor_calls.proofs.Laws.CursorCalls.{position-short, position-answered}
 use Rattle.cursor_calls.proofs.position.Statement.{statement}

@@ -4,8 +4,8 @@ use mathlib.Core.Path.{_≡_, refl}
 use mathlib.Core.Bool.{Bool}
 use mathlib.Core.List.{List, [], _++_}
 use lib.ListN.{length}
-use Rattle.fragment.specs.declared.start.Start.{Start}
-use Rattle.picture.specs.declared.Picture.{Picture}
+use Rattle.cursor_fragment.specs.declared.start.Start.{Start}
+use Rattle.cursor_picture.specs.declared.Picture.{Picture}
 use Rattle.little_endian.specs.Layout.{flag, laid}
 use Rattle.little_endian.specs.Little.{bytes}
 use Rattle.cursor_layout.specs.PictureLayout.{startBytes, pictureBytes, pictureOf, PictureReadsBack}

@@ -10,7 +10,7 @@ use mir.Val.{ofZ, SFits}
 use mir.ValLaws.{toZ-ofZ, ofZ-fits}
 use Rattle.wire.specs.Signed.{signed, unsigned}
 use Rattle.wire.proofs.Laws.Signed.{signed-toZ, unsigned-ofZ}
-use Rattle.pointer.specs.declared.Pointer.{Pointer}
+use Rattle.cursor_pointer.specs.declared.Pointer.{Pointer}
 use Rattle.little_endian.specs.Layout.{flag, laid}
 use Rattle.little_endian.specs.Little.{bytes}
 use Rattle.cursor_layout.specs.PointerLayout.{pointerBytes, pointerOf, PointerReadsBack}

@@ -6,13 +6,13 @@ use native.Mathlib.Omega.{arith}
 use borrow.Author.Tests.{lt-ltb, le-ltb}
 use lib.ListN.{length}
 use Rattle.wire.specs.declared.status.Status.the-variants as status
-use Rattle.limits.specs.declared.value.Value.{Value}
-use Rattle.limits.specs.declared.value.Answer.{Answer}
-use Rattle.limits.specs.declared.value.Answer.the-variants as reader
-use Rattle.limits.specs.declared.value.Written.{Written}
-use Rattle.limits.specs.Reading.{readValue}
-use Rattle.limits.specs.Word.{copied}
-use Rattle.limits.specs.Writing.{spelling, writeAnswer}
+use Rattle.cursor_limits.specs.declared.value.Value.{Value}
+use Rattle.cursor_limits.specs.declared.value.Answer.{Answer}
+use Rattle.cursor_limits.specs.declared.value.Answer.the-variants as reader
+use Rattle.cursor_limits.specs.declared.value.Written.{Written}
+use Rattle.cursor_limits.specs.Reading.{readValue}
+use Rattle.cursor_limits.specs.Word.{copied}
+use Rattle.cursor_limits.specs.Writing.{spelling, writeAnswer}
 use Rattle.limits_layout.specs.LimitsLayout.{limitsBytes, limitsIn}
 use Rattle.little_endian.proofs.Laws.Layout.{laid-short}
 use Rattle.limits_layout.proofs.Laws.LimitsLayout.{length-limits}

@@ -4,10 +4,10 @@ use mathlib.Core.Path.{_≡_, refl}
 use mathlib.Core.List.{List, [], _++_}
 use native.Mathlib.Omega.{arith}
 use lib.ListN.{length, length-append}
-use Rattle.limits.specs.declared.value.Xor.{Xor}
-use Rattle.limits.specs.declared.value.Xor.the-variants as xor
-use Rattle.limits.specs.declared.value.Value.{Value}
-use Rattle.limits.specs.declared.value.Value.the-variants as value
+use Rattle.cursor_limits.specs.declared.value.Xor.{Xor}
+use Rattle.cursor_limits.specs.declared.value.Xor.the-variants as xor
+use Rattle.cursor_limits.specs.declared.value.Value.{Value}
+use Rattle.cursor_limits.specs.declared.value.Value.the-variants as value
 use Rattle.little_endian.specs.Layout.{laid}
 use Rattle.limits_layout.specs.LimitsLayout.{xorByte, xorOf, numberBytes, limitsBytes, limitsIn, LimitsBack}
 use Rattle.little_endian.specs.Little.{numberAt, bytes, written}

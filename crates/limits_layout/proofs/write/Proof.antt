@@ -1,7 +1,7 @@
 -- The numbers are those of the variant. Assumes nothing.
 use mathlib.Core.Path.{sym, ap, _∙_}
 use denote.Ref.{now}
-use Rattle.limits.specs.declared.value.Value.{Value}
+use Rattle.cursor_limits.specs.declared.value.Value.{Value}
 use Rattle.little_endian.specs.Layout.{laid}
 use Rattle.limits_layout.specs.LimitsLayout.{limitsBytes}
 use borrow.Author.Needs.{needs}

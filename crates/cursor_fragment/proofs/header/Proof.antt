@@ -1,0 +1,15 @@
+-- One constant for each type. Assumes nothing.
+use Rattle.cursor_fragment.specs.Fragment.{headerOf}
+use Rattle.cursor_fragment.proofs.header.Statement.{statement}
+use Rattle.cursor_fragment.proofs.header.Tie as tie
+
+returns : tie.Need-returns
+unfolding headerOf
+returns c = simp (c .if1 .taken)
+
+returns-2 : tie.Need-returns-2
+unfolding headerOf
+returns-2 c = simp (c .if1 .left)
+
+pub header-spec : {M : Type 1} → statement M
+header-spec = tie.close (tie.spec returns returns-2)

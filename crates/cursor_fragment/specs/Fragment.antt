@@ -1,0 +1,97 @@
+-- Starts and continuations (003 section 2.2.3; 01, "Cursor packets": types 2 and 3). Assumes nothing.
+use Prim.Native.Nat.{ℕ, _+_, _≤_}
+use mathlib.Core.Path.{_≡_}
+use mathlib.Core.Bool.{Bool, true, false, cond, _||_}
+use mathlib.Core.List.{List, [], _∷_, _++_}
+use lib.Dec.{ltb, leb, eqb}
+use lib.IntN.{ℤ, pos, negsuc}
+use lib.ListN.{length, drop}
+use Rattle.wire.specs.Number.{number}
+use Rattle.wire.specs.Signed.{signed}
+use Rattle.wire.specs.declared.status.Status.{Status}
+use Rattle.wire.specs.declared.status.Status.the-variants as status
+use Rattle.cursor_fragment.specs.declared.Fragment.{Fragment}
+use Rattle.cursor_fragment.specs.declared.FragmentAnswer.{FragmentAnswer}
+use Rattle.cursor_fragment.specs.declared.FragmentAnswer.the-variants.{Accepted, Refused}
+use Rattle.cursor_packet.specs.Checks.{Check, refuse, firstOf, accepted}
+use Rattle.cursor_fragment.specs.Continuation.{continuationOf, placeOf}
+use Rattle.cursor_packet.specs.Frame.{typeOf, sizeOf, frameChecks}
+use Rattle.cursor_fragment.specs.Start.{startOf, noStart}
+
+-- the call for starts and continuations takes types 2 and 3 only
+unfoldable pub takesType : ℕ → Bool
+takesType t = eqb t 2 || eqb t 3
+
+abbrev pub isStart : List ℕ → Bool
+isStart p = eqb (typeOf p) 2
+
+-- the header from MsgType to the data: 18 bytes of a start, 13 of a continuation
+unfoldable pub headerOf : Bool → ℕ
+headerOf starts = cond starts 18 13
+
+unfoldable pub imageData : Bool → List ℕ → List ℕ
+imageData starts p = drop (12 + headerOf starts) p
+
+-- a start's data stand at offset 0
+unfoldable pub offsetOf : Bool → List ℕ → ℤ
+offsetOf starts p = cond starts (pos 0) (continuationOf p .offset)
+
+-- refusal 9: negative offset, or offset plus data beyond the total
+unfoldable pub outside : ℤ → ℕ → ℕ → Bool
+outside (pos offset) size total = ltb total (offset + size)
+outside (negsuc k) size total = true
+
+-- the checks of the call for starts and continuations on the packet alone, in their order
+unfoldable pub fragmentFrame : Bool → List ℕ → List Check
+fragmentFrame starts p = frameChecks (takesType (typeOf p)) (leb (headerOf starts) (sizeOf p)) p
+
+unfoldable pub fragmentChecks : Bool → List ℕ → List Check
+fragmentChecks starts p =
+    fragmentFrame starts p
+    ++ (refuse status.OutsideImage (outside (offsetOf starts p) (length (imageData starts p)) (number 4 p 15)) ∷ [])
+
+-- the fields of a start
+unfoldable pub startFragment : List ℕ → Fragment
+startFragment p = record {
+  sequence = number 2 p 2;
+  total = number 4 p 15;
+  id = number 2 p 19;
+  offset = 0;
+  starts = true;
+  x = signed 2 (number 2 p 21);
+  y = signed 2 (number 2 p 23);
+  start = startOf p;
+}
+
+-- the fields of a continuation; it has no position and no start fields
+unfoldable pub continuationFragment : List ℕ → Fragment
+continuationFragment p = record {
+  sequence = number 2 p 2;
+  total = number 4 p 15;
+  id = number 2 p 19;
+  offset = placeOf (continuationOf p .offset);
+  starts = false;
+  x = pos 0;
+  y = pos 0;
+  start = noStart;
+}
+
+unfoldable pub fragmentOf : List ℕ → Fragment
+fragmentOf p = cond (isStart p) (startFragment p) (continuationFragment p)
+
+abbrev pub fragmentStatus : List ℕ → Status
+fragmentStatus p = firstOf (fragmentChecks (isStart p) p)
+
+abbrev pub dataOf : List ℕ → List ℕ
+dataOf p = imageData (isStart p) p
+
+unfoldable pub readFragment : List ℕ → FragmentAnswer
+readFragment p = cond (accepted (fragmentStatus p)) (Accepted (fragmentOf p)) (Refused (fragmentStatus p) 0)
+
+-- Of an accepted packet the fragment's offset is the number that stands in it, and the data lie inside the total. The proofs stand in
+-- proofs/Laws/Fragment.antt.
+unfoldable pub OffsetKept : Type 0
+OffsetKept = (p : List ℕ) → accepted (fragmentStatus p) ≡ true → offsetOf (isStart p) p ≡ pos (fragmentOf p .offset)
+
+unfoldable pub DataInside : Type 0
+DataInside = (p : List ℕ) → accepted (fragmentStatus p) ≡ true → fragmentOf p .offset + length (dataOf p) ≤ fragmentOf p .total

@@ -1,0 +1,257 @@
+// Fragments of an image: starts, type 2, and continuations, type 3 (003 section 2.2.3).
+//
+//   start                                  continuation
+//   place  bytes                           place  bytes
+//      15      4  TotalImageDataSize          15      4  TotalImageDataSize
+//      19      2  CursorImageId               19      2  CursorImageId
+//      21      2  XPos, signed                21      4  PacketPayloadOffset, signed
+//      23      2  YPos, signed                25         ImageData
+//      25      1  CursorImageType
+//      26      2  HotSpotXPos
+//      28      2  HotSpotYPos
+//      30         ImageData, at offset 0
+pub mod continuation;
+pub mod start;
+
+ghost use mathlib.Core.Path.{_≡_};
+ghost use Prim.Native.Nat.{min};
+ghost use Rattle.wire.specs.Number.{number};
+ghost use Rattle.wire.specs.Signed.{signed};
+ghost use Rattle.cursor_packet.specs.Checks.{firstOf};
+ghost use Rattle.cursor_fragment.specs.Continuation.{continuationOf, placeOf};
+ghost use mathlib.Core.Bool.{true, false};
+ghost use Rattle.cursor_fragment.specs.Fragment.{isStart, headerOf, imageData, outside, startFragment, continuationFragment, readFragment};
+ghost use Rattle.cursor_fragment.specs.Parsing.{bodyChecks, noFragment, refusedAs, parsedAs, parsed};
+use continuation::Continuation;
+use cursor_packet::frame;
+use cursor_packet::rtp;
+use cursor_packet::rtp::Rtp;
+use start::Start;
+use wire::number;
+use wire::status;
+use wire::status::Status;
+
+// A start or a continuation, but for its data. A start stands at offset 0; a continuation has position 0, 0 and start fields 0.
+pub struct Fragment {
+    pub sequence: u16,
+    pub total: u32,
+    pub id: u16,
+    pub offset: u32,
+    pub starts: bool,
+    pub x: i16,
+    pub y: i16,
+    pub start: Start,
+}
+
+// The status, and the fragment of an accepted packet. A struct, since the variants of an enum share bytes: the fields would be packed and
+// unpacked again.
+pub struct Parsed {
+    pub status: Status,
+    pub fragment: Fragment,
+}
+
+pub enum FragmentAnswer {
+    Accepted(Fragment),
+    Refused { status: Status, place: usize },
+}
+
+// Whether a packet's type is that of a start.
+pub fn is_start(packet: &[u8]) -> bool
+    ensures { λ r. ⌜ r ≡ isStart (now (packet .entry)) ⌝ }
+{
+    number::u8_at(packet, 12) == Start::TYPE
+}
+
+fn header(starts: bool) -> usize
+    ensures { λ r. ⌜ r ≡ headerOf starts ⌝ }
+{
+    if starts {
+        Start::HEADER
+    } else {
+        Continuation::HEADER
+    }
+}
+
+// The image data: what follows the header of a start or of a continuation.
+pub fn image_data(packet: &[u8], starts: bool) -> &[u8]
+    ensures { λ r. ⌜ now r ≡ imageData starts (now (packet .entry)) ⌝ }
+{
+    let from = Rtp::HEADER + header(starts);
+    if from <= packet.len() {
+        &packet[from..]
+    } else {
+        &packet[..0]
+    }
+}
+
+// The lesser of two numbers.
+fn least(a: usize, b: usize) -> usize
+    ensures { λ r. ⌜ r ≡ min a b ⌝ }
+{
+    if a < b { a } else { b }
+}
+
+// Whether the offset whose two's complement is `place` is negative, which is `place` above 2,147,483,647, or offset plus data goes beyond
+// the total. One comparison with the lesser of the two limits: it needs the number as a whole.
+fn is_outside(place: u32, length: usize, total: u32) -> bool
+    ensures { λ r. ⌜ r ≡ outside (signed 4 place) length total ⌝ }
+{
+    let end = total as usize;
+    if end < length {
+        return true;
+    }
+    least(end - length, 2147483647) < place as usize
+}
+
+// The fields of a start whose total has been read.
+fn start_fragment(packet: &[u8], total: u32) -> Fragment
+    requires { ⌜ total ≡ number 4 (now packet) 15 ⌝ }
+    ensures { λ r. ⌜ r ≡ startFragment (now (packet .entry)) ⌝ }
+{
+    let position = start::position(packet);
+    let own = start::read(packet);
+    Fragment {
+        sequence: position.sequence,
+        total: total,
+        id: number::u16_at(packet, 19),
+        offset: 0,
+        starts: true,
+        x: position.x,
+        y: position.y,
+        start: own,
+    }
+}
+
+// The fields of a continuation whose total and offset have been read.
+fn continuation_fragment(packet: &[u8], total: u32, place: u32) -> Fragment
+    requires { ⌜ (total ≡ number 4 (now packet) 15) × (place ≡ placeOf (continuationOf (now packet) .offset)) ⌝ }
+    ensures { λ r. ⌜ r ≡ continuationFragment (now (packet .entry)) ⌝ }
+{
+    let rtp = rtp::read(packet);
+    let none = Start::none();
+    Fragment {
+        sequence: rtp.sequence,
+        total: total,
+        id: number::u16_at(packet, 19),
+        offset: place,
+        starts: false,
+        x: 0,
+        y: 0,
+        start: none,
+    }
+}
+
+// What stands in a fragment's place where the packet is refused.
+fn no_fragment() -> Fragment
+    ensures { λ r. ⌜ r ≡ noFragment ⌝ }
+{
+    let none = Start::none();
+    Fragment {
+        sequence: 0,
+        total: 0,
+        id: 0,
+        offset: 0,
+        starts: false,
+        x: 0,
+        y: 0,
+        start: none,
+    }
+}
+
+fn refused(status: Status) -> Parsed
+    ensures { λ r. ⌜ r ≡ refusedAs status ⌝ }
+{
+    Parsed {
+        status: status,
+        fragment: no_fragment(),
+    }
+}
+
+// A start after its header and type: PacketMsgSize below 18, 2; too few bytes 1; too many 2; data beyond the total 9. The total is read once,
+// for the check and for the fragment.
+fn parse_start(packet: &[u8]) -> Parsed
+    ensures { λ r. ⌜ r ≡ parsedAs (firstOf (bodyChecks true (now (packet .entry)))) (startFragment (now (packet .entry))) ⌝ }
+{
+    let size = number::u16_at(packet, 13) as usize;
+    if size < Start::HEADER {
+        return refused(Status::WrongSize);
+    }
+    let end = Rtp::HEADER + size;
+    if packet.len() < end {
+        return refused(Status::Truncated);
+    }
+    if end < packet.len() {
+        return refused(Status::WrongSize);
+    }
+    let total = number::u32_at(packet, 15);
+    let limit = total as usize;
+    if limit < size - Start::HEADER {
+        return refused(Status::OutsideImage);
+    }
+    Parsed {
+        status: Status::Accepted,
+        fragment: start_fragment(packet, total),
+    }
+}
+
+// A continuation after its header and type: PacketMsgSize below 13, 2; too few bytes 1; too many 2; negative offset, or offset plus data
+// beyond the total, 9. Total and offset are read once, for the check and for the fragment.
+fn parse_continuation(packet: &[u8]) -> Parsed
+    ensures { λ r. ⌜ r ≡ parsedAs (firstOf (bodyChecks false (now (packet .entry)))) (continuationFragment (now (packet .entry))) ⌝ }
+{
+    let size = number::u16_at(packet, 13) as usize;
+    if size < Continuation::HEADER {
+        return refused(Status::WrongSize);
+    }
+    let end = Rtp::HEADER + size;
+    if packet.len() < end {
+        return refused(Status::Truncated);
+    }
+    if end < packet.len() {
+        return refused(Status::WrongSize);
+    }
+    let total = number::u32_at(packet, 15);
+    let place = number::u32_at(packet, 21);
+    if is_outside(place, size - Continuation::HEADER, total) {
+        return refused(Status::OutsideImage);
+    }
+    Parsed {
+        status: Status::Accepted,
+        fragment: continuation_fragment(packet, total, place),
+    }
+}
+
+// The first refusal in 01's order, or Accepted with the fragment: fewer than 15 bytes 1; RTP 3; another type 4; then the checks of a start or
+// of a continuation.
+pub fn parse(packet: &[u8]) -> Parsed
+    ensures { λ r. ⌜ r ≡ parsed (now (packet .entry)) ⌝ }
+{
+    if packet.len() < frame::LEAST {
+        return refused(Status::Truncated);
+    }
+    if !rtp::holds(packet) {
+        return refused(Status::WrongHeader);
+    }
+    match number::u8_at(packet, 12) {
+        Start::TYPE => parse_start(packet),
+        Continuation::TYPE => parse_continuation(packet),
+        _ => refused(Status::UnknownKind),
+    }
+}
+
+// The start or continuation, or its refusal.
+pub fn read(packet: &[u8]) -> FragmentAnswer
+    ensures { λ r. ⌜ r ≡ readFragment (now (packet .entry)) ⌝ }
+{
+    let parsed = parse(packet);
+    let status = parsed.status;
+    let fragment = parsed.fragment;
+    if status::number(status) == 0 {
+        FragmentAnswer::Accepted(fragment)
+    } else {
+        FragmentAnswer::Refused {
+            status: status,
+            place: 0,
+        }
+    }
+}

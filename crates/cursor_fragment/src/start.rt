@@ -1,0 +1,62 @@
+// What only a start has (003 section 2.2.3).
+//
+//   place  bytes
+//      21      2  XPos, signed
+//      23      2  YPos, signed
+//      25      1  CursorImageType
+//      26      2  HotSpotXPos
+//      28      2  HotSpotYPos
+ghost use mathlib.Core.Path.{_≡_};
+ghost use Rattle.cursor_fragment.specs.Start.{noStart, startOf, startPosition};
+use cursor_packet::position::Position;
+use cursor_packet::rtp;
+use wire::number;
+use wire::signed;
+
+// A start's own fields, which its position is not among.
+pub struct Start {
+    pub image_type: u8,
+    pub hot_x: u16,
+    pub hot_y: u16,
+}
+
+impl Start {
+    pub const TYPE: u8 = 2;
+    // The least PacketMsgSize: all but the data.
+    pub const HEADER: usize = 18;
+    // The start fields where no start was seen.
+    pub fn none() -> Start
+        ensures { λ r. ⌜ r ≡ noStart ⌝ }
+    {
+        Start {
+            image_type: 0,
+            hot_x: 0,
+            hot_y: 0,
+        }
+    }
+}
+
+// The start fields of a packet.
+pub(crate) fn read(packet: &[u8]) -> Start
+    ensures { λ r. ⌜ r ≡ startOf (now (packet .entry)) ⌝ }
+{
+    Start {
+        image_type: number::u8_at(packet, 25),
+        hot_x: number::u16_at(packet, 26),
+        hot_y: number::u16_at(packet, 28),
+    }
+}
+
+// The position of a packet that is a start, with the packet's sequence number.
+pub fn position(packet: &[u8]) -> Position
+    ensures { λ r. ⌜ r ≡ startPosition (now (packet .entry)) ⌝ }
+{
+    let rtp = rtp::read(packet);
+    let x = signed::signed16(number::u16_at(packet, 21));
+    let y = signed::signed16(number::u16_at(packet, 23));
+    Position {
+        sequence: rtp.sequence,
+        x: x,
+        y: y,
+    }
+}

@@ -1,0 +1,85 @@
+-- The fields are read in their order; the first that is no number refuses. Assumes nothing.
+use borrow.Author.Needs.{needs}
+use Rattle.cursor_limits.specs.Reading.{readLimits}
+use Rattle.cursor_limits.proofs.reading.read_limits.Statement.{statement}
+use Rattle.cursor_limits.proofs.reading.read_limits.Tie as tie
+
+returns : tie.Need-returns
+unfolding readLimits
+returns c =
+    let t = c .before in
+    simp (c .not-grammar .ensures, ← t .before .before .read-field .ensures, t .enum-told .given .1)
+
+returns-2 : tie.Need-returns-2
+unfolding readLimits
+returns-2 c =
+    let t = c .before in
+    let w = t .before .before .before .before .before in
+    simp (
+      c .not-grammar2 .ensures,
+      ← w .before .before .read-field .ensures,
+      w .width .given .1,
+      ← t .before .before .read-field2 .ensures,
+      t .enum-told2 .given .1,
+    )
+
+returns-3 : tie.Need-returns-3
+unfolding readLimits
+returns-3 c =
+    let t = c .before in
+    let h = t .before .before .before .before .before in
+    let w = h .before .before .before .before .before in
+    simp (
+      c .not-grammar3 .ensures,
+      ← w .before .before .read-field .ensures,
+      w .width .given .1,
+      ← h .before .before .read-field2 .ensures,
+      h .height .given .1,
+      ← t .before .before .read-field3 .ensures,
+      t .enum-told3 .given .1,
+    )
+
+returns-4 : tie.Need-returns-4
+unfolding readLimits
+returns-4 c =
+    let p = c .before in
+    let h = p .before .before .before .before .before in
+    let w = h .before .before .before .before .before in
+    simp (
+      ← w .before .before .read-field .ensures,
+      w .width .given .1,
+      ← h .before .before .read-field2 .ensures,
+      h .height .given .1,
+      ← p .before .before .read-field3 .ensures,
+      p .port .given .1,
+    )
+
+pub read-limits-spec : {M : Type 1} → statement M
+read-limits-spec =
+    tie.close
+    (tie.spec
+    (λ c. search needs)
+    (λ c. search needs)
+    (λ c. search needs)
+    (λ c κs. search needs)
+    (λ c. search needs)
+    (λ c. search needs)
+    (λ c κs. search needs)
+    returns
+    (λ c. search needs)
+    (λ c. search needs)
+    (λ c. search needs)
+    (λ c κs. search needs)
+    (λ c. search needs)
+    (λ c. search needs)
+    (λ c κs. search needs)
+    returns-2
+    (λ c. search needs)
+    (λ c. search needs)
+    (λ c. search needs)
+    (λ c κs. search needs)
+    (λ c. search needs)
+    (λ c. search needs)
+    (λ c κs. search needs)
+    returns-3
+    returns-4)

@@ -1,0 +1,61 @@
+-- What reading a cursor limits value gives (01, "Cursor limits value"). `Theorems` says that this is the grammar. Assumes nothing.
+use Prim.Native.Nat.{ℕ}
+use mathlib.Core.List.{List}
+use mathlib.Core.Bool.{cond}
+use lib.Dec.{eqb}
+use lib.ListN.{length, getD, take, drop}
+use Rattle.wire.specs.declared.status.Status.the-variants as status
+use Rattle.wire.specs.Status.{numberOf}
+use Rattle.cursor_limits.specs.declared.hex.Digits.{Digits}
+use Rattle.cursor_limits.specs.declared.hex.Digits.the-variants as digits
+use Rattle.cursor_limits.specs.declared.value.Xor.{Xor}
+use Rattle.cursor_limits.specs.declared.value.Xor.the-variants as xor
+use Rattle.cursor_limits.specs.declared.value.Value.the-variants as value
+use Rattle.cursor_limits.specs.declared.value.Answer.{Answer}
+use Rattle.cursor_limits.specs.declared.value.Answer.the-variants as answer
+use Rattle.cursor_limits.specs.Grammar.{noneWord, fullWord, space}
+use Rattle.cursor_limits.specs.Hex.{readDigits}
+use Rattle.cursor_limits.specs.Word.{spells}
+
+-- the paper's number of an answer, and the place of a refusal
+abbrev pub answerNumber : Answer → ℕ
+answerNumber (answer.Accepted v) = 0
+answerNumber (answer.Refused status place) = numberOf status
+
+abbrev pub answerPlace : Answer → ℕ
+answerPlace (answer.Accepted v) = 0
+answerPlace (answer.Refused status place) = place
+
+-- the text is not of the grammar: 16, at place 0
+abbrev pub notGrammar : Answer
+notGrammar = answer.Refused status.NotGrammar 0
+
+-- SP and the digits after it
+unfoldable pub readField : List ℕ → Digits
+readField s = cond (eqb (getD s 0 0) space) (readDigits (drop 1 s)) digits.NotHexadecimal
+
+-- the limits, where width, height and port are numbers
+abbrev pub limitsOf : Xor → Digits → Digits → Digits → Answer
+limitsOf x digits.NotHexadecimal h p = notGrammar
+limitsOf x (digits.Number w) digits.NotHexadecimal p = notGrammar
+limitsOf x (digits.Number w) (digits.Number h) digits.NotHexadecimal = notGrammar
+limitsOf x (digits.Number w) (digits.Number h) (digits.Number p) =
+    answer.Accepted (value.Supported (record { xor = x; width = w; height = h; port = p }))
+
+-- the n bytes from `at`
+abbrev pub part : ℕ → ℕ → List ℕ → List ℕ
+part at n s = take n (drop at s)
+
+-- SP x-max SP y-max SP port, after the four letters of the xor support
+unfoldable pub readLimits : Xor → List ℕ → Answer
+readLimits x s = limitsOf x (readField (part 4 5 s)) (readField (part 9 5 s)) (readField (part 14 5 s))
+
+-- "none", or 19 bytes: the xor support, and the limits
+unfoldable pub readValue : List ℕ → Answer
+readValue s =
+    cond (spells noneWord s) (answer.Accepted value.NotSupported)
+    (cond (eqb (length s) 19)
+    (cond (spells noneWord (take 4 s)) (readLimits xor.None s)
+    (cond (spells fullWord (take 4 s)) (readLimits xor.Full s)
+    notGrammar))
+    notGrammar)

@@ -1,0 +1,22 @@
+-- Position packets (003 section 2.2.2; 01, "Cursor packets": "Type 1, position: size 7; x and y, 16 bits signed"). Assumes nothing.
+use Prim.Native.Nat.{ℕ}
+use mathlib.Core.Bool.{cond}
+use mathlib.Core.List.{List}
+use lib.Dec.{eqb}
+use Rattle.wire.specs.Number.{number}
+use Rattle.wire.specs.Signed.{signed}
+use Rattle.cursor_packet.specs.declared.position.Position.{Position}
+use Rattle.cursor_packet.specs.declared.position.PositionAnswer.{PositionAnswer}
+use Rattle.cursor_packet.specs.declared.position.PositionAnswer.the-variants.{Accepted, Refused}
+use Rattle.cursor_packet.specs.Checks.{Check, firstOf, accepted}
+use Rattle.cursor_packet.specs.Frame.{typeOf, sizeOf, frameChecks}
+
+-- the checks of the call for positions, in their order
+unfoldable pub positionChecks : List ℕ → List Check
+positionChecks p = frameChecks (eqb (typeOf p) 1) (eqb (sizeOf p) 7) p
+
+unfoldable pub positionOf : List ℕ → Position
+positionOf p = record { sequence = number 2 p 2; x = signed 2 (number 2 p 15); y = signed 2 (number 2 p 17) }
+
+unfoldable pub readPosition : List ℕ → PositionAnswer
+readPosition p = cond (accepted (firstOf (positionChecks p))) (Accepted (positionOf p)) (Refused (firstOf (positionChecks p)) 0)

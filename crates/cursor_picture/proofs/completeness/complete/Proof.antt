@@ -1,0 +1,66 @@
+-- One test for each of the definition's. Assumes nothing.
+use mathlib.Core.Path.{sym, _∙_}
+use lib.ListN.{length}
+use denote.Ref.{now}
+use borrow.Author.Tests.{not-true, not-false}
+use borrow.Author.Needs.{needs}
+use Rattle.cursor_picture.specs.Completeness.{completeness}
+use Rattle.cursor_picture.proofs.Laws.Picture.{room-says, held-says}
+use Rattle.cursor_picture.proofs.completeness.complete.Statement.{statement}
+use Rattle.cursor_picture.proofs.completeness.complete.Tie as tie
+
+is-held-requires : tie.Need-is-held-requires
+is-held-requires c κs = search needs
+
+returns : tie.Need-returns
+unfolding completeness
+returns c = simp (sym (c .before .is-held .ensures) ∙ not-true _ (c .if1 .taken))
+
+cast-all-filled : tie.Need-cast-all-filled
+cast-all-filled c = search needs
+
+all-filled-requires : tie.Need-all-filled-requires
+all-filled-requires c κs =
+    let o = c .before .before in
+    let h = o .before .before in
+    let a = h .before .before .before .args in
+    let i = length (now (a .image)) in
+    let m = length (now (a .marks)) in
+    room-says (a .picture .total) i m (held-says (a .picture) i m (sym (h .is-held .ensures) ∙ not-false _ (o .before .if1 .left)) (o .if2 .taken)) .1
+
+returns-2 : tie.Need-returns-2
+unfolding completeness
+returns-2 c =
+    let f = c .before in
+    let s = f .before .before in
+    let o = s .before in
+    simp (sym (o .before .before .is-held .ensures) ∙ not-false _ (o .before .if1 .left), o .if2 .taken, s .if3 .taken, sym (f .all-filled .ensures) ∙ c .if4 .taken)
+
+returns-3 : tie.Need-returns-3
+unfolding completeness
+returns-3 c =
+    let f = c .before in
+    let s = f .before .before in
+    let o = s .before in
+    simp (sym (o .before .before .is-held .ensures) ∙ not-false _ (o .before .if1 .left), o .if2 .taken, s .if3 .taken, sym (f .all-filled .ensures) ∙ c .if4 .left)
+
+returns-4 : tie.Need-returns-4
+unfolding completeness
+returns-4 c = let o = c .before in simp (sym (o .before .before .is-held .ensures) ∙ not-false _ (o .before .if1 .left), o .if2 .taken, c .if3 .left)
+
+returns-5 : tie.Need-returns-5
+unfolding completeness
+returns-5 c = simp (sym (c .before .before .is-held .ensures) ∙ not-false _ (c .before .if1 .left), c .if2 .left)
+
+pub complete-spec : {M : Type 1} → statement M
+complete-spec =
+    tie.close
+    (tie.spec
+    is-held-requires
+    returns
+    cast-all-filled
+    all-filled-requires
+    returns-2
+    returns-3
+    returns-4
+    returns-5)

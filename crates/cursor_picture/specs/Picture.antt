@@ -1,0 +1,18 @@
+-- The record of the opened picture (01, "Cursor packets": "Picture"; refusals 10 and 17). Assumes nothing.
+use Prim.Native.Nat.{ℕ}
+use mathlib.Core.Bool.{Bool, true, false, cond, _&&_}
+use lib.Dec.{leb}
+use Rattle.cursor_fragment.specs.Start.{noStart}
+use Rattle.cursor_picture.specs.declared.Picture.{Picture}
+
+-- no picture is opened
+unfoldable pub freshPicture : Picture
+freshPicture = record { opened = false; id = 0; total = 0; opening = 0; seen = false; start = noStart }
+
+-- the total is no larger than 262,144, than the lent picture and than the lent marks, of which the lengths are given
+unfoldable pub hasRoom : ℕ → ℕ → ℕ → Bool
+hasRoom total image marks = leb total 262144 && (leb total image && leb total marks)
+
+-- refusal 17 doesn't apply: no picture is opened, or the opened one has room
+unfoldable pub held : Picture → ℕ → ℕ → Bool
+held q image marks = cond (q .opened) (hasRoom (q .total) image marks) true

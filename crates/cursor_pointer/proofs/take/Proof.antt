@@ -1,0 +1,72 @@
+-- The packet is refused, or it is not newer, or the pointer moves. Assumes nothing.
+use mathlib.Core.Path.{sym, ap, _∙_}
+use denote.Ref.{now}
+use mir.Syntax.{w16}
+use mir.Val.{SFits}
+use mir.ValLaws.{toZ-ofZ}
+use borrow.Author.Tests.{eq-eqb, ne-eqb}
+use Rattle.cursor_packet.specs.Checks.{accepted}
+use Rattle.cursor_pointer.proofs.Laws.Pointer.{moved-refused, moved-late, moved-moves}
+use borrow.Author.Needs.{needs}
+use Rattle.cursor_pointer.proofs.take.Statement.{statement}
+use Rattle.cursor_pointer.proofs.take.Tie as tie
+
+check-requires : tie.Need-check-requires
+check-requires c κs = search needs
+
+number-requires : tie.Need-number-requires
+number-requires c κs = search needs
+
+returns : tie.Need-returns
+returns c =
+    let n = c .before in
+    let k = n .before in
+    let a = k .before .before .args in
+    rw (k .check .ensures) (sym (moved-refused (a .pointer) (now (a .packet)) (ap accepted (sym (k .check .ensures)) ∙ ne-eqb _ 0 (λ e. c .if1 .taken (n .number .ensures ∙ e)))))
+
+fields-requires : tie.Need-fields-requires
+fields-requires c κs = search needs
+
+newer-requires : tie.Need-newer-requires
+newer-requires c κs = search needs
+
+moved-requires : tie.Need-moved-requires
+moved-requires c κs = search needs
+
+fits : (c : tie.After-fields) → SFits w16 (c .fields .result .x) × SFits w16 (c .fields .result .y)
+fits c = (search needs, search needs)
+
+returns-2 : tie.Need-returns-2
+returns-2 c =
+    let i = c .before .before .before in
+    let w = i .before in
+    let f = w .before in
+    let n = f .before .before in
+    let k = n .before in
+    let a = k .before .before .args in
+    let x = toZ-ofZ w16 (f .fields .result .x) (fits f .0) in
+    let y = toZ-ofZ w16 (f .fields .result .y) (fits f .1) in
+    rw (c .moved .ensures, x, y, f .fields .ensures)
+    (sym (moved-moves (a .pointer) (now (a .packet)) (ap accepted (sym (k .check .ensures)) ∙ eq-eqb _ 0 (sym (n .number .ensures) ∙ f .before .if1 .left)) (rw (← f .fields .ensures) (sym (w .newer .ensures) ∙ i .if2 .taken))))
+
+returns-3 : tie.Need-returns-3
+returns-3 c =
+    let w = c .before in
+    let f = w .before in
+    let n = f .before .before in
+    let k = n .before in
+    let a = k .before .before .args in
+    sym (moved-late (a .pointer) (now (a .packet)) (ap accepted (sym (k .check .ensures)) ∙ eq-eqb _ 0 (sym (n .number .ensures) ∙ f .before .if1 .left)) (rw (← f .fields .ensures) (sym (w .newer .ensures) ∙ c .if2 .left)))
+
+pub take-spec : {M : Type 1} → statement M
+take-spec =
+    tie.close
+    (tie.spec
+    check-requires
+    number-requires
+    returns
+    fields-requires
+    newer-requires
+    moved-requires
+    returns-2
+    returns-3)

@@ -1,0 +1,159 @@
+-- One call, on the state that the host keeps: a refusal keeps it, an accepted fragment changes what it covers, and opening sets the
+-- sequence number that later fragments of other ids are held to. Assumes nothing.
+use Prim.Native.Nat.{ℕ, _+_, _≤_}
+use mathlib.Core.Path.{_≡_, refl, sym, ap, _∙_}
+use mathlib.Core.Bool.{Bool, true, false, cond, false≢true}
+use mathlib.Core.List.{List}
+use native.Mathlib.Omega.{arith}
+use borrow.Author.Tests.{ne-eqb}
+use lib.ListN.{length, getD, replicate, length-replicate}
+use Rattle.wire.specs.Splice.{splice}
+use Rattle.wire.specs.declared.status.Status.{Status}
+use Rattle.wire.proofs.Laws.Splice.{length-splice, after-part, getD-splice}
+use Rattle.cursor_packet.specs.Checks.{firstOf, accepted}
+use Rattle.cursor_fragment.specs.Fragment.{fragmentOf, dataOf, DataInside}
+use Rattle.cursor_fragment.specs.declared.Fragment.{Fragment}
+use Rattle.cursor_fragment.proofs.Laws.Fragment.{data-inside}
+use Rattle.cursor_pointer.specs.declared.Pointer.{Pointer}
+use Rattle.cursor_picture.specs.declared.Picture.{Picture}
+use Rattle.cursor_picture.proofs.Laws.Picture.{room-says}
+use Rattle.cursor_store.specs.declared.storing.StoreAnswer.the-variants.{Refused}
+use Rattle.cursor_store.specs.Judging.{ofOpened, opens, judging}
+use Rattle.cursor_store.specs.Storing.{after, openedBy, openedFor, clearedFor, imageAfter, marksAfter, withStart, pictureAfter, pointerAfter, outcome, storeStatus, stored}
+use Rattle.cursor_store.specs.Calls.{State, isAccepted, answered, next, covers, RefusalKeeps, OutsideKept, FormerStaysClosed}
+use Rattle.cursor_store.proofs.Laws.Judging.{judged-room, judged-late}
+use Rattle.cursor_store.proofs.Laws.Storing.{store-passed}
+
+module _ (t : Status) (p : Pointer) (q : Picture) (f : Fragment) (ds image marks : List ℕ) where
+  refused-is : isAccepted (outcome t p q f ds image marks .answer) ≡ false → outcome t p q f ds image marks ≡ after (Refused t 0) image marks
+  unfolding outcome
+  refused-is h = go (accepted t) refl
+    where
+      go : (b : Bool) → accepted t ≡ b → outcome t p q f ds image marks ≡ after (Refused t 0) image marks
+      go true e = absurd (false≢true (sym h ∙ simp e))
+      go false e = simp e
+
+  not-accepted : accepted t ≡ false → isAccepted (outcome t p q f ds image marks .answer) ≡ false
+  unfolding outcome
+  not-accepted e = simp e
+
+  was-accepted : isAccepted (outcome t p q f ds image marks .answer) ≡ true → accepted t ≡ true
+  unfolding outcome
+  was-accepted h = go (accepted t) refl
+    where
+      go : (b : Bool) → accepted t ≡ b → accepted t ≡ true
+      go true e = e
+      go false e = absurd (false≢true (sym (not-accepted e) ∙ h))
+
+pub refusal-keeps : RefusalKeeps
+unfolding RefusalKeeps next stored
+refusal-keeps s packet h =
+    rw (refused-is (storeStatus (s .picture) packet (s .image) (s .marks)) (s .pointer) (s .picture) (fragmentOf packet) (dataOf packet) (s .image) (s .marks) h)
+
+-- an accepted call
+module _ (s : State) (packet : List ℕ) (h : isAccepted (answered s packet .answer) ≡ true) where
+  status-accepted : accepted (storeStatus (s .picture) packet (s .image) (s .marks)) ≡ true
+  unfolding stored
+  status-accepted =
+      was-accepted (storeStatus (s .picture) packet (s .image) (s .marks)) (s .pointer) (s .picture) (fragmentOf packet) (dataOf packet) (s .image) (s .marks) h
+
+  next-is
+      : next s packet
+      ≡ record {
+        pointer = pointerAfter (s .pointer) (fragmentOf packet);
+        picture = pictureAfter (s .picture) (fragmentOf packet);
+        image = imageAfter (fragmentOf packet) (dataOf packet) (s .image);
+        marks = marksAfter (s .picture) (fragmentOf packet) (dataOf packet) (s .marks);
+      }
+  unfolding next stored outcome
+  next-is = simp status-accepted
+
+  places : (fragmentOf packet .offset + length (dataOf packet) ≤ fragmentOf packet .total)
+      × (fragmentOf packet .total ≤ length (s .image)) × (fragmentOf packet .total ≤ length (s .marks))
+  unfolding DataInside
+  places =
+      let r = store-passed (s .picture) packet (s .image) (s .marks) status-accepted in
+      let m = judged-room (s .picture) (fragmentOf packet) (dataOf packet) (s .image) (s .marks) (r .2) in
+      let l = room-says (fragmentOf packet .total) (length (s .image)) (length (s .marks)) m in
+      (data-inside packet (r .1), l .0, l .1)
+
+  module _ (i : ℕ) (u : covers packet i ≡ false) where
+    abbrev f : Fragment
+    f = fragmentOf packet
+
+    image-kept : getD (next s packet .image) i 0 ≡ getD (s .image) i 0
+    unfolding imageAfter
+    image-kept =
+        let p = places in
+        ap (λ (x : State). getD (x .image) i 0) next-is ∙ getD-splice (f .offset) (dataOf packet) (s .image) (omega arith) i ∙ rw u
+
+    cleared-long : (b : Bool) → length (cond b (s .marks) (splice 0 (replicate (f .total) 0) (s .marks))) ≡ length (s .marks)
+    cleared-long true = refl
+    cleared-long false =
+        length-splice 0 (replicate (f .total) 0) (s .marks) (rw (length-replicate {A = ℕ} (f .total) 0) (let p = places in omega arith))
+
+    marks-as : getD (next s packet .marks) i 0 ≡ getD (clearedFor (s .picture) f (s .marks)) i 0
+    unfolding marksAfter clearedFor
+    marks-as =
+        let p = places in
+        let n = length-replicate {A = ℕ} (length (dataOf packet)) 1 in
+        let m = cleared-long (ofOpened (s .picture) f) in
+        ap (λ (x : State). getD (x .marks) i 0) next-is
+        ∙ getD-splice (f .offset) (replicate (length (dataOf packet)) 1) (clearedFor (s .picture) f (s .marks)) (omega arith) i
+        ∙ rw (n, u)
+
+    beyond-kept : f .total ≤ i → getD (next s packet .marks) i 0 ≡ getD (s .marks) i 0
+    unfolding clearedFor
+    beyond-kept l = marks-as ∙ go (ofOpened (s .picture) f)
+      where
+        go : (b : Bool) → getD (cond b (s .marks) (splice 0 (replicate (f .total) 0) (s .marks))) i 0 ≡ getD (s .marks) i 0
+        go true = refl
+        go false =
+            let p = places in
+            let n = length-replicate {A = ℕ} (f .total) 0 in
+            after-part 0 (replicate (f .total) 0) (s .marks) (omega arith) i (omega arith)
+
+    opened-kept : ofOpened (s .picture) f ≡ true → getD (next s packet .marks) i 0 ≡ getD (s .marks) i 0
+    unfolding clearedFor
+    opened-kept o = marks-as ∙ simp o
+
+pub outside-kept : OutsideKept
+unfolding OutsideKept RefusalKeeps
+outside-kept s packet i u = go (isAccepted (answered s packet .answer)) refl
+  where
+    go : (b : Bool) → isAccepted (answered s packet .answer) ≡ b
+        → (getD (next s packet .image) i 0 ≡ getD (s .image) i 0)
+        × (fragmentOf packet .total ≤ i → getD (next s packet .marks) i 0 ≡ getD (s .marks) i 0)
+        × (ofOpened (s .picture) (fragmentOf packet) ≡ true → getD (next s packet .marks) i 0 ≡ getD (s .marks) i 0)
+    go true h = (image-kept s packet h i u, beyond-kept s packet h i u, opened-kept s packet h i u)
+    go false h = rw (refusal-keeps s packet h) (refl, λ l. refl, λ o. refl)
+
+-- the record of a picture just opened
+opened-as : (b : Bool) (f : Fragment) → f .starts ≡ b
+    → (withStart f (openedBy f) .opened ≡ true) × (withStart f (openedBy f) .id ≡ f .id) × (withStart f (openedBy f) .opening ≡ f .sequence)
+unfolding withStart openedBy
+opened-as true f e = (simp e, simp e, simp e)
+opened-as false f e = (simp e, simp e, simp e)
+
+pub former-stays-closed : FormerStaysClosed
+unfolding FormerStaysClosed RefusalKeeps ofOpened openedFor pictureAfter stored
+former-stays-closed s opener late h o d n =
+    let f = fragmentOf opener in
+    let g = fragmentOf late in
+    let s′ = next s opener in
+    let e : s′ .picture ≡ withStart f (openedBy f) = ap (λ (x : State). x .picture) (next-is s opener h) ∙ simp o in
+    let r = opened-as (f .starts) f refl in
+    let not-id : ofOpened (s′ .picture) g ≡ false = rw (e, r .0, r .1, ne-eqb (f .id) (g .id) d) in
+    let not-newer : opens (s′ .picture) g ≡ false = rw (e, r .0, r .2) n in
+    let late-is = judged-late (s′ .picture) g (dataOf late) (s′ .image) (s′ .marks) not-id not-newer in
+    let refused = not-accepted (storeStatus (s′ .picture) late (s′ .image) (s′ .marks)) (s′ .pointer) (s′ .picture) g (dataOf late) (s′ .image) (s′ .marks)
+    (store-stopped (s′ .picture) late (s′ .image) (s′ .marks) late-is) in
+    (refused, refusal-keeps s′ late refused)
+  where
+    store-stopped : (q : Picture) (packet image marks : List ℕ) → accepted (firstOf (judging q (fragmentOf packet) (dataOf packet) image marks)) ≡ false
+        → accepted (storeStatus q packet image marks) ≡ false
+    store-stopped q packet image marks e = go (accepted (storeStatus q packet image marks)) refl
+      where
+        go : (b : Bool) → accepted (storeStatus q packet image marks) ≡ b → b ≡ false
+        go true k = sym (store-passed q packet image marks k .2) ∙ e
+        go false k = refl

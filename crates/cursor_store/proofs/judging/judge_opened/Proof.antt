@@ -1,0 +1,40 @@
+-- Each return gives the refusal of the first check in the list whose condition holds there. Assumes nothing.
+use borrow.Author.Tests.{eq-eqb, ne-eqb}
+use borrow.Author.Needs.{needs}
+use Rattle.cursor_packet.specs.Checks.{firstOf}
+use Rattle.cursor_store.specs.Judging.{openedRules}
+use Rattle.cursor_store.proofs.judging.judge_opened.Statement.{statement}
+use Rattle.cursor_store.proofs.judging.judge_opened.Tie as tie
+
+returns : tie.Need-returns
+unfolding firstOf openedRules
+returns c = simp (ne-eqb _ _ (c .if1 .taken))
+
+start-differs-requires : tie.Need-start-differs-requires
+start-differs-requires c κs = search needs
+
+returns-2 : tie.Need-returns-2
+unfolding firstOf openedRules
+returns-2 c = let s = c .before in simp (eq-eqb _ _ (s .before .if1 .left), ← s .start-differs .ensures, c .if2 .taken)
+
+bytes-differ-requires : tie.Need-bytes-differ-requires
+bytes-differ-requires c κs = search needs
+
+returns-3 : tie.Need-returns-3
+unfolding firstOf openedRules
+returns-3 c =
+    let b = c .before in
+    let s = b .before .before in
+    simp (eq-eqb _ _ (s .before .if1 .left), ← s .start-differs .ensures, b .before .if2 .left, ← b .bytes-differ .ensures, c .if3 .taken)
+
+returns-4 : tie.Need-returns-4
+unfolding firstOf openedRules
+returns-4 c =
+    let b = c .before in
+    let s = b .before .before in
+    simp (eq-eqb _ _ (s .before .if1 .left), ← s .start-differs .ensures, b .before .if2 .left, ← b .bytes-differ .ensures, c .if3 .left)
+
+pub judge-opened-spec : {M : Type 1} → statement M
+judge-opened-spec =
+    tie.close
+    (tie.spec returns start-differs-requires returns-2 bytes-differ-requires returns-3 returns-4)

@@ -1,0 +1,28 @@
+-- The test is the definition's. Assumes nothing.
+use mathlib.Core.Path.{_≡_, sym, _∙_}
+use mathlib.Core.Bool.{true, false}
+use borrow.Author.Needs.{needs}
+use Rattle.cursor_packet.specs.Checks.{firstOf}
+use Rattle.cursor_store.specs.Judging.{opens, otherRules}
+use Rattle.cursor_store.proofs.judging.judge_other.Statement.{statement}
+use Rattle.cursor_store.proofs.judging.judge_other.Tie as tie
+
+newer-requires : tie.Need-newer-requires
+newer-requires c κs = search needs
+
+returns : tie.Need-returns
+unfolding firstOf otherRules
+returns c =
+    let a = c .before .before .args in
+    let newer : opens (a .picture) (a .fragment) ≡ true = sym (c .before .newer .ensures) ∙ c .if1 .taken in
+    simp newer
+
+returns-2 : tie.Need-returns-2
+unfolding firstOf otherRules
+returns-2 c =
+    let a = c .before .before .args in
+    let old : opens (a .picture) (a .fragment) ≡ false = sym (c .before .newer .ensures) ∙ c .if1 .left in
+    simp old
+
+pub judge-other-spec : {M : Type 1} → statement M
+judge-other-spec = tie.close (tie.spec newer-requires returns returns-2)

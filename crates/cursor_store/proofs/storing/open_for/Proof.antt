@@ -1,0 +1,71 @@
+-- The lent part comes back filled with 0. Assumes nothing.
+use mathlib.Core.Path.{_≡_, sym, _∙_}
+use Prim.Native.Nat.{_-_}
+use native.Mathlib.Omega.{arith}
+use denote.Ref.{now}
+use borrow.Author.Needs.{needs}
+use lib.ListN.{replicate, length-replicate}
+use borrow.Rule.Slice.PartMut.{putMid}
+use Rattle.wire.specs.Splice.{splice}
+use Rattle.wire.proofs.Laws.Splice.{part-back}
+use Rattle.cursor_store.specs.Storing.{openedFor, clearedFor}
+use Rattle.cursor_store.proofs.Laws.Storing.{part-length}
+use Rattle.cursor_store.proofs.storing.open_for.Statement.{statement}
+use Rattle.cursor_store.proofs.storing.open_for.Tie as tie
+
+of-opened-requires : tie.Need-of-opened-requires
+of-opened-requires c κs = search needs
+
+returns : tie.Need-returns
+unfolding openedFor clearedFor
+returns c = let e = sym (c .before .of-opened .ensures) ∙ c .if1 .taken in (simp e, simp e)
+
+cast-total : tie.Need-cast-total
+cast-total c = search needs
+
+sub-fill : tie.Need-sub-fill
+sub-fill c = search needs
+
+part-fill-start : tie.Need-part-fill-start
+part-fill-start c = search needs
+
+part-fill-end : tie.Need-part-fill-end
+part-fill-end c = search needs
+
+fill-requires : tie.Need-fill-requires
+fill-requires c κs = search needs
+
+opened-by-requires : tie.Need-opened-by-requires
+opened-by-requires c κs = search needs
+
+same-length : tie.Need-same-length
+same-length c = search needs
+
+returns-2 : tie.Need-returns-2
+unfolding openedFor clearedFor
+returns-2 c =
+    let f = c .before .before .before in
+    let i = f .before .before .before in
+    let s = i .before .before .before in
+    let ms = now (s .args .marks) in
+    let n = s .args .fragment .total in
+    let o = sym (i .before .of-opened .ensures) ∙ i .if1 .left in
+    let e : n - 0 ≡ n = omega arith in
+    let m : putMid 0 (n - 0) ms (f .fill .last .0) ≡ splice 0 (replicate n 0) ms
+    = rw (f .fill .ensures, e, part-length 0 n ms (omega (arith, s .pre))) (part-back 0 n ms (replicate n 0) (length-replicate n 0)) in
+    (simp o (c .opened-by .ensures), simp o m)
+
+pub open-for-spec : {M : Type 1} → statement M
+open-for-spec =
+    tie.close
+    (tie.spec
+    of-opened-requires
+    returns
+    cast-total
+    sub-fill
+    part-fill-start
+    part-fill-end
+    fill-requires
+    opened-by-requires
+    same-length
+    returns-2)
