@@ -23,8 +23,8 @@ use Rattle.session_table.specs.declared.record.State.the-variants as state
 use Rattle.session_table.specs.Record.{noSource, freshSession}
 use Rattle.session_table.specs.Source.{carried, otherSource}
 use Rattle.session_table.specs.Table.{isEvent}
-use Rattle.session.specs.declared.step.Stepped.{Stepped}
-use Rattle.session.specs.Step.{optionsFrom, sourceAfter, accepted, stepOf}
+use Rattle.session_step.specs.declared.step.Stepped.{Stepped}
+use Rattle.session_step.specs.Step.{optionsFrom, sourceAfter, accepted, stepOf}
 use Rattle.cursor_packet.specs.declared.position.PositionAnswer.{PositionAnswer}
 use Rattle.cursor_packet.specs.declared.position.PositionAnswer.the-variants as positioned
 use Rattle.cursor_packet.specs.Checks.{firstOf}

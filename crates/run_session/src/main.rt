@@ -4,8 +4,8 @@
 
 use libc::STDOUT_FILENO;
 use message::accessors::SourceId;
-use session::step;
-use session::step::Stepped;
+use session_step::step;
+use session_step::step::Stepped;
 use session_table::record::Session;
 use session_table::record::State;
 use wire::status;

@@ -9,10 +9,10 @@ use Rattle.wire.specs.declared.status.Status.the-variants as status
 use Rattle.wire.specs.Status.{numberOf}
 use Rattle.wire.specs.Number.{written}
 use Rattle.message.specs.declared.accessors.SourceId.{SourceId}
-use Rattle.session.specs.declared.step.Answer.{Answer}
-use Rattle.session.specs.declared.step.Stepped.{Stepped}
-use Rattle.session.specs.Step.{stepOf}
-use Rattle.session.specs.Message.{onMessage}
+use Rattle.session_step.specs.declared.step.Answer.{Answer}
+use Rattle.session_step.specs.declared.step.Stepped.{Stepped}
+use Rattle.session_step.specs.Step.{stepOf}
+use Rattle.session_step.specs.Message.{onMessage}
 use Rattle.little_endian.specs.Layout.{laid}
 use Rattle.session_layout.specs.SessionLayout.{sourceAt, stateNumber, sessionBytes, sessionOf}
 use Rattle.host_answers.specs.declared.Step.{Step}

@@ -16,12 +16,12 @@ use Rattle.message_reader.specs.Reading.{readMessage}
 use Rattle.message.specs.Accessors.{sourceOf, optionsOf}
 use Rattle.session_table.specs.declared.record.Session.{Session}
 use Rattle.session_table.specs.Record.{isOpen}
-use Rattle.session.specs.declared.step.Stepped.{Stepped}
-use Rattle.session.specs.Step.{closed, refused}
-use Rattle.session.specs.Runs.{Event, stepped, next}
-use Rattle.session.proofs.Laws.Runs.{refusal-keeps}
-use Rattle.session.specs.Step.{stepOf}
-use Rattle.session.specs.Message.{afterRead, onMessage}
+use Rattle.session_step.specs.declared.step.Stepped.{Stepped}
+use Rattle.session_step.specs.Step.{closed, refused}
+use Rattle.session_step.specs.Runs.{Event, stepped, next}
+use Rattle.session_step.proofs.Laws.Runs.{refusal-keeps}
+use Rattle.session_step.specs.Step.{stepOf}
+use Rattle.session_step.specs.Message.{afterRead, onMessage}
 use Rattle.session_layout.specs.SessionLayout.{stateNumber, sessionOf}
 use Rattle.session_calls.specs.SessionCalls.{after, shortStep, answerOf, bytesLeft, leftBy, sourceIn, taken, sessionStep, sessionMessage, KeptIfRefused, StepRefusalKeeps, MessageRefusalKeeps}
 
@@ -58,7 +58,7 @@ module _ (xs : List ℕ) where
       )
 
   event-kept : (e : Event) → KeptIfRefused xs (leftBy (stepped (sessionOf xs) e) xs)
-  unfolding KeptIfRefused Rattle.session.specs.Theorems.RefusalKeeps
+  unfolding KeptIfRefused Rattle.session_step.specs.Theorems.RefusalKeeps
   event-kept e h k = by (refusal-keeps (sessionOf xs) e (ne-eqb (numberOf (stepped (sessionOf xs) e .answer .status)) 0 h))
     where
       by : (next (sessionOf xs) e ≡ sessionOf xs)
