@@ -2,7 +2,7 @@
 use mathlib.Core.Path.{_≡_, refl}
 use mathlib.Core.List.{[], _∷_}
 use Rattle.wire.specs.declared.status.Status.the-variants as status
-use Rattle.recording.specs.declared.line.Line.the-variants as line
+use Rattle.message_recording.specs.declared.line.Line.the-variants as line
 use Rattle.listing.specs.Text.{decimalTo, decimal, textOf}
 
 -- `33 2 28`

@@ -3,8 +3,8 @@ use Prim.Native.Nat.{ℕ, _+_, _%_, _^_, _≤_}
 use mathlib.Core.List.{List}
 use mathlib.Core.Bool.{false}
 use lib.ListN.{length}
-use Rattle.recording.specs.declared.line.Line.{Line}
-use Rattle.recording.specs.declared.line.Line.the-variants as line
+use Rattle.message_recording.specs.declared.line.Line.{Line}
+use Rattle.message_recording.specs.declared.line.Line.the-variants as line
 use Rattle.listing.specs.declared.State.{State}
 
 -- what is read and not listed lies in the buffer, which has room for the largest message and more, and what is to be written in the output

@@ -6,8 +6,8 @@ use mathlib.Core.Bool.{cond}
 use lib.ListN.{length, take}
 use lib.Dec.{ltb}
 use Rattle.wire.specs.Status.{numberOf}
-use Rattle.recording.specs.declared.line.Line.{Line}
-use Rattle.recording.specs.declared.line.Line.the-variants as line
+use Rattle.message_recording.specs.declared.line.Line.{Line}
+use Rattle.message_recording.specs.declared.line.Line.the-variants as line
 
 -- n in decimal, of at most k digits: the last digit after those of the tenth part
 unfoldable pub decimalTo : ℕ → ℕ → List ℕ

@@ -6,14 +6,14 @@ mod text;
 ghost use mathlib.Core.Path.{_≡_};
 ghost use Prim.Native.Nat.{_+_, _-_, _≤_, _<_};
 ghost use lib.ListN.{length, take, drop};
-ghost use Rattle.recording.specs.Line.{lineOf};
+ghost use Rattle.message_recording.specs.Line.{lineOf};
 ghost use Rattle.listing.specs.State.{Within, after};
 ghost use Rattle.listing.specs.Text.{Put, textOf};
 use libc::STDERR_FILENO;
 use libc::STDOUT_FILENO;
-use recording::cut::needed;
-use recording::line::Line;
-use recording::line::first_line;
+use message_recording::cut::needed;
+use message_recording::line::Line;
+use message_recording::line::first_line;
 
 // Where the listing stands. Of the buffer's bytes, those from `from` to `to` are read and not listed yet; the first of them is at `place` of
 // the recording, and once the recording has `ended` no more follow. Of the lines, `used` bytes are not written yet. `going` is false after

@@ -2,7 +2,7 @@
 ghost use Prim.Native.Nat.{_+_, _≤_};
 ghost use lib.ListN.{length};
 ghost use Rattle.listing.specs.Text.{Put, decimal, messageText, refusedText, endText, textOf};
-use recording::line::Line;
+use message_recording::line::Line;
 use wire::status;
 
 // Puts `text` from `at` on, and answers the place after it.

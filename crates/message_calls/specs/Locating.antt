@@ -5,8 +5,8 @@ use mathlib.Core.Bool.{not}
 use mathlib.Core.List.{List}
 use lib.Dec.{eqb}
 use lib.ListN.{getD, replicate}
-use Rattle.message.specs.declared.record.Field.{Field}
-use Rattle.message.specs.declared.record.Message.{Message}
+use Rattle.message_rules.specs.declared.record.Field.{Field}
+use Rattle.message_rules.specs.declared.record.Message.{Message}
 use Rattle.message_reader.specs.declared.Answer.{Answer}
 use Rattle.message_reader.specs.declared.Answer.the-variants as answer
 

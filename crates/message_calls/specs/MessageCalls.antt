@@ -1,4 +1,4 @@
--- What the calls of connection messages answer, and what the lent bytes then hold: by the definitions of the message (crate message) and of
+-- What the calls of connection messages answer, and what the lent bytes then hold: by the definitions of the message (crate message_rules) and of
 -- its record as bytes (crate message_layout). s are the lent bytes of a message, xs those of its record. Assumes nothing.
 use Prim.Native.Nat.{ℕ}
 use mathlib.Core.List.{List}
@@ -13,10 +13,10 @@ use Rattle.message_reader.specs.declared.Answer.{Answer as ReaderAnswer}
 use Rattle.message_reader.specs.declared.Answer.the-variants as reader
 use Rattle.message_writer.specs.declared.Written.{Written as WriterAnswer}
 use Rattle.message_writer.specs.declared.Written.the-variants as writer
-use Rattle.message.specs.declared.accessors.SourceId.{SourceId}
+use Rattle.message_rules.specs.declared.accessors.SourceId.{SourceId}
 use Rattle.message_reader.specs.Reading.{readMessage}
 use Rattle.message_writer.specs.Writing.{writeAnswer, output}
-use Rattle.message.specs.Accessors.{portOf, optionsOf, sourceOf}
+use Rattle.message_rules.specs.Accessors.{portOf, optionsOf, sourceOf}
 use Rattle.little_endian.specs.Layout.{laid}
 use Rattle.message_layout.specs.MessageLayout.{messageBytes, messageIn}
 use Rattle.host_answers.specs.declared.Answer.{Answer}

@@ -10,7 +10,7 @@ use host_answers::Written;
 use host_answers::Yes;
 use host_answers::accept;
 use host_answers::refuse;
-use message::accessors;
+use message_rules::accessors;
 use scan::bytes;
 use wire::number::u8_at;
 use wire::status;

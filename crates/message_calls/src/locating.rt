@@ -4,13 +4,13 @@
 ghost use mathlib.Core.Path.{_≡_};
 ghost use Prim.Native.Nat.{_≤_};
 ghost use lib.ListN.{length};
-ghost use Rattle.message.specs.Record.{emptyOf};
+ghost use Rattle.message_rules.specs.Record.{emptyOf};
 ghost use Rattle.message_reader.specs.Reading.{commandIn, tlvsFrom, readMessage};
 ghost use Rattle.message_reader.specs.Checking.{verdictOf};
 ghost use Rattle.message_calls.specs.Locating.{none, Located, fieldFrom, messageFrom};
-use message::record::Field;
-use message::record::Message;
-use message::rules;
+use message_rules::record::Field;
+use message_rules::record::Message;
+use message_rules::rules;
 use message_reader::Header;
 use message_reader::Tlv;
 use message_reader::Verdict;

@@ -3,10 +3,10 @@ use Prim.Native.Nat.{ℕ, _+_, _^_, _≤_, _<_}
 use mathlib.Core.Path.{_≡_}
 use mathlib.Core.List.{List, _++_}
 use lib.ListN.{length}
-use Rattle.message.specs.declared.record.Field.{Field}
-use Rattle.message.specs.declared.record.Message.{Message}
+use Rattle.message_rules.specs.declared.record.Field.{Field}
+use Rattle.message_rules.specs.declared.record.Message.{Message}
 use Rattle.message_reader.specs.declared.Answer.the-variants as answer
-use Rattle.message.specs.Record.{fieldOf}
+use Rattle.message_rules.specs.Record.{fieldOf}
 use Rattle.message_reader.specs.Reading.{readMessage}
 use Rattle.message_reader.specs.Theorems.{Bytes}
 use Rattle.little_endian.specs.Layout.{flag, isSet, laid}

@@ -20,8 +20,8 @@ use little_endian::put_u8;
 use little_endian::put_u32;
 use little_endian::u8_at;
 use little_endian::u32_at;
-use message::record::Field;
-use message::record::Message;
+use message_rules::record::Field;
+use message_rules::record::Message;
 
 pub const LENGTH: usize = 64;
 

@@ -6,14 +6,14 @@ use mathlib.Core.Bool.{Bool, true, cond, not}
 use lib.ListN.{length}
 use lib.Dec.{ltb, eqb}
 use Rattle.wire.specs.declared.status.Status.the-variants as status
-use Rattle.message.specs.declared.record.Message.{Message}
+use Rattle.message_rules.specs.declared.record.Message.{Message}
 use Rattle.message_reader.specs.declared.Answer.{Answer}
 use Rattle.message_reader.specs.declared.Answer.the-variants as answer
 use Rattle.message_reader.specs.declared.Tlv.{Tlv}
 use Rattle.message_reader.specs.declared.Tlv.the-variants as tlv
 use Rattle.message_reader.specs.declared.Verdict.{Verdict}
-use Rattle.message.specs.Rules.{entryOf, foreign, needed, seen, lengthOk}
-use Rattle.message.specs.Record.{withField}
+use Rattle.message_rules.specs.Rules.{entryOf, foreign, needed, seen, lengthOk}
+use Rattle.message_rules.specs.Record.{withField}
 use Rattle.message_reader.specs.Reading.{typeAt, lengthAt, nextAt, Step}
 use Rattle.message_reader.specs.Reading as step
 

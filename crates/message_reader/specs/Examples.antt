@@ -9,11 +9,11 @@ use Rattle.wire.specs.Number.{number}
 use Rattle.wire.specs.Status.{numberOf}
 use Rattle.message_reader.specs.declared.Answer.{Answer}
 use Rattle.message_reader.specs.declared.Answer.the-variants as answer
-use Rattle.message.specs.Rules.{rolesOf, roleOf, lengthsOf, lengthOk, knownCommand}
+use Rattle.message_rules.specs.Rules.{rolesOf, roleOf, lengthsOf, lengthOk, knownCommand}
 use Rattle.wire.specs.Below.{allBelow}
-use Rattle.message.specs.Record.{fieldOf, withField, emptyOf}
+use Rattle.message_rules.specs.Record.{fieldOf, withField, emptyOf}
 use Rattle.message_reader.specs.Reading.{headerOf, tlvAt, hasNeeded, isComplete, lastOf, tlvsFrom, readMessage}
-use Rattle.message.specs.Accessors.{portOf}
+use Rattle.message_rules.specs.Accessors.{portOf}
 
 -- bytes, and what reading them gives: accepted with an RTSP port, or a refusal number and its place
 pub data Example : Type 0 where

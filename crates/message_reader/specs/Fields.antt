@@ -5,9 +5,9 @@ use mathlib.Core.Bool.{cond}
 use mathlib.Core.List.{List}
 use lib.Dec.{ltb}
 use lib.ListN.{length, getD}
-use Rattle.message.specs.declared.record.Message.{Message}
+use Rattle.message_rules.specs.declared.record.Message.{Message}
 use Rattle.message_reader.specs.declared.Answer.the-variants as answer
-use Rattle.message.specs.Record.{withField, emptyOf}
+use Rattle.message_rules.specs.Record.{withField, emptyOf}
 use Rattle.message_reader.specs.Reading.{commandIn, typeAt, nextAt, valueAt, readMessage}
 
 -- the record m with the values of the TLVs from `at` on, at most k of them

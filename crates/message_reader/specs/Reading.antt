@@ -8,15 +8,15 @@ use lib.Dec.{ltb, eqb}
 use Rattle.wire.specs.Number.{number}
 use Rattle.wire.specs.declared.status.Status.{Status}
 use Rattle.wire.specs.declared.status.Status.the-variants as status
-use Rattle.message.specs.declared.record.Field.{Field}
-use Rattle.message.specs.declared.record.Message.{Message}
+use Rattle.message_rules.specs.declared.record.Field.{Field}
+use Rattle.message_rules.specs.declared.record.Message.{Message}
 use Rattle.message_reader.specs.declared.Answer.{Answer}
 use Rattle.message_reader.specs.declared.Answer.the-variants as answer
 use Rattle.message_reader.specs.declared.Header.{Header}
 use Rattle.message_reader.specs.declared.Header.the-variants as header
-use Rattle.message.specs.Rules.{roleOf, foreign, needed, lengthOk, knownCommand}
+use Rattle.message_rules.specs.Rules.{roleOf, foreign, needed, lengthOk, knownCommand}
 use Rattle.wire.specs.Below.{allBelow}
-use Rattle.message.specs.Record.{fieldOf, withField, emptyOf}
+use Rattle.message_rules.specs.Record.{fieldOf, withField, emptyOf}
 
 -- Size, Version and Command of the message s (001 section 2.2)
 abbrev pub sizeIn : List ℕ → ℕ

@@ -7,11 +7,11 @@ use mathlib.Core.Logic.{_⊎_}
 use lib.ListN.{length, getD}
 use Rattle.wire.specs.declared.status.Status.{Status}
 use Rattle.wire.specs.declared.status.Status.the-variants as status
-use Rattle.message.specs.declared.record.Field.{Field}
-use Rattle.message.specs.declared.record.Message.{Message}
+use Rattle.message_rules.specs.declared.record.Field.{Field}
+use Rattle.message_rules.specs.declared.record.Message.{Message}
 use Rattle.message_reader.specs.declared.Answer.the-variants as answer
-use Rattle.message.specs.Rules.{roleOf, foreign, needed, lengthOk, knownCommand}
-use Rattle.message.specs.Record.{fieldOf, withField, emptyOf, sizeTo}
+use Rattle.message_rules.specs.Rules.{roleOf, foreign, needed, lengthOk, knownCommand}
+use Rattle.message_rules.specs.Record.{fieldOf, withField, emptyOf, sizeTo}
 use Rattle.message_reader.specs.Reading.{sizeIn, versionIn, commandIn, typeAt, lengthAt, nextAt, valueAt, readMessage}
 
 -- ---- Each number exactly under its condition

@@ -8,10 +8,10 @@ use mathlib.Core.Logic.{_⊎_}
 use lib.ListN.{length, take, drop}
 use Rattle.wire.specs.declared.status.Status.{Status}
 use Rattle.wire.specs.declared.status.Status.the-variants as status
-use Rattle.message.specs.declared.record.Message.{Message}
+use Rattle.message_rules.specs.declared.record.Message.{Message}
 use Rattle.message_reader.specs.declared.Answer.the-variants as answer
-use Rattle.message.specs.Rules.{roleOf, foreign, needed, lengthOk, knownCommand}
-use Rattle.message.specs.Record.{fieldOf, valueOf, sizeTo}
+use Rattle.message_rules.specs.Rules.{roleOf, foreign, needed, lengthOk, knownCommand}
+use Rattle.message_rules.specs.Record.{fieldOf, valueOf, sizeTo}
 use Rattle.message_reader.specs.Reading.{readMessage}
 use Rattle.message_reader.specs.Theorems.{Bytes}
 use Rattle.message_writer.specs.declared.Written.the-variants as written

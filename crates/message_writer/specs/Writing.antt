@@ -6,13 +6,13 @@ use lib.ListN.{length, drop}
 use lib.Dec.{ltb, leb, eqb}
 use Rattle.wire.specs.Number.{bytes}
 use Rattle.wire.specs.declared.status.Status.the-variants as status
-use Rattle.message.specs.declared.record.Field.{Field}
-use Rattle.message.specs.declared.record.Message.{Message}
+use Rattle.message_rules.specs.declared.record.Field.{Field}
+use Rattle.message_rules.specs.declared.record.Message.{Message}
 use Rattle.message_writer.specs.declared.Written.{Written}
 use Rattle.message_writer.specs.declared.Written.the-variants as written
-use Rattle.message.specs.Rules.{roleOf, foreign, needed, lengthOk, knownCommand}
+use Rattle.message_rules.specs.Rules.{roleOf, foreign, needed, lengthOk, knownCommand}
 use Rattle.wire.specs.Below.{allBelow}
-use Rattle.message.specs.Record.{fieldOf, valueOf, sizeTo}
+use Rattle.message_rules.specs.Record.{fieldOf, valueOf, sizeTo}
 
 -- the field of type t can be written, from n lent bytes: one that is there belongs to the command, lies within them and has a length of its
 -- type; one that is not there is not needed

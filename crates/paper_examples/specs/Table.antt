@@ -14,10 +14,10 @@ use Rattle.wire.specs.Signed.{signed}
 use Rattle.wire.specs.Status.{numberOf}
 use Rattle.message_reader.specs.declared.Answer.{Answer}
 use Rattle.message_reader.specs.declared.Answer.the-variants as read
-use Rattle.message.specs.Rules.{rolesOf, roleOf, lengthsOf, lengthOk, knownCommand}
-use Rattle.message.specs.Record.{fieldOf, withField, emptyOf}
+use Rattle.message_rules.specs.Rules.{rolesOf, roleOf, lengthsOf, lengthOk, knownCommand}
+use Rattle.message_rules.specs.Record.{fieldOf, withField, emptyOf}
 use Rattle.message_reader.specs.Reading.{headerOf, hasNeeded, isComplete, tlvAt, lastOf, tlvsFrom, readMessage}
-use Rattle.message.specs.Accessors.{portOf}
+use Rattle.message_rules.specs.Accessors.{portOf}
 use Rattle.session_table.specs.declared.record.State.{State}
 use Rattle.session_table.specs.declared.record.State.the-variants as state
 use Rattle.session_table.specs.Record.{noSource, freshSession}

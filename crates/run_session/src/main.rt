@@ -3,7 +3,7 @@
 //     STATE EVENT KEPT CARRIED OPTIONS BROUGHT: STATUS CHECK STATE OPTIONS FIRST-BYTE-OF-KEPT-ID-OR-0
 
 use libc::STDOUT_FILENO;
-use message::accessors::SourceId;
+use message_rules::accessors::SourceId;
 use session_step::step;
 use session_step::step::Stepped;
 use session_table::record::Session;

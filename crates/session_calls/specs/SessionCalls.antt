@@ -8,7 +8,7 @@ use lib.ListN.{length}
 use Rattle.wire.specs.declared.status.Status.the-variants as status
 use Rattle.wire.specs.Status.{numberOf}
 use Rattle.wire.specs.Number.{written}
-use Rattle.message.specs.declared.accessors.SourceId.{SourceId}
+use Rattle.message_rules.specs.declared.accessors.SourceId.{SourceId}
 use Rattle.session_step.specs.declared.step.Answer.{Answer}
 use Rattle.session_step.specs.declared.step.Stepped.{Stepped}
 use Rattle.session_step.specs.Step.{stepOf}

@@ -7,7 +7,7 @@ ghost use Rattle.session_layout.specs.SessionLayout.{sessionBytes};
 ghost use Rattle.host_answers.specs.Fresh.{freshAnswer};
 ghost use Rattle.session_calls.specs.SessionCalls.{after, shortStep, answerOf, left, sourceIn, taken, sessionStep, sessionMessage};
 use host_answers::Step;
-use message::accessors::SourceId;
+use message_rules::accessors::SourceId;
 use session_step::message_step;
 use session_step::step;
 use session_step::step::Answer;

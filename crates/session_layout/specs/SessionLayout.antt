@@ -5,7 +5,7 @@ use mathlib.Core.List.{List, [], _∷_, _++_}
 use mathlib.Core.Bool.{Bool}
 use lib.ListN.{length, getD, drop, replicate}
 use Rattle.scan.specs.Bytes.{copied}
-use Rattle.message.specs.declared.accessors.SourceId.{SourceId}
+use Rattle.message_rules.specs.declared.accessors.SourceId.{SourceId}
 use Rattle.session_table.specs.declared.record.State.{State}
 use Rattle.session_table.specs.declared.record.State.the-variants as state
 use Rattle.session_table.specs.declared.record.Session.{Session}

@@ -13,7 +13,7 @@ ghost use Rattle.little_endian.specs.Layout.{laid};
 ghost use Rattle.session_layout.specs.SessionLayout.{stateOf, stateNumber, idAt, sourceAt, sessionBytes, sessionOf};
 use little_endian::put_u8;
 use little_endian::u8_at;
-use message::accessors::SourceId;
+use message_rules::accessors::SourceId;
 use scan::bytes;
 use session_table::record::Session;
 use session_table::record::State;

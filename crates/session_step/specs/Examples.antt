@@ -5,7 +5,7 @@ use mathlib.Core.Bool.{true, false}
 use lib.ListN.{replicate}
 use Rattle.wire.specs.Below.{allBelow}
 use Rattle.wire.specs.declared.status.Status.the-variants as status
-use Rattle.message.specs.declared.accessors.SourceId.{SourceId}
+use Rattle.message_rules.specs.declared.accessors.SourceId.{SourceId}
 use Rattle.session_table.specs.declared.record.State.the-variants as state
 use Rattle.session_table.specs.Record.{noSource, freshSession}
 use Rattle.session_table.specs.Source.{carried, otherSource, sameBytes}

@@ -5,7 +5,7 @@ use Rattle.wire.specs.declared.status.Status.the-variants as status
 use Rattle.message_reader.specs.declared.Answer.{Answer}
 use Rattle.message_reader.specs.declared.Answer.the-variants as answer
 use Rattle.message_reader.specs.Reading.{readMessage}
-use Rattle.message.specs.Accessors.{sourceOf, optionsOf}
+use Rattle.message_rules.specs.Accessors.{sourceOf, optionsOf}
 use Rattle.session_table.specs.declared.record.Session.{Session}
 use Rattle.session_step.specs.declared.step.Stepped.{Stepped}
 use Rattle.session_step.specs.Step.{refused, stepOf}

@@ -4,7 +4,7 @@ use mathlib.Core.List.{List, [], _∷_}
 use mathlib.Core.Bool.{Bool, false, cond, _&&_, _||_}
 use lib.Dec.{eqb}
 use Rattle.wire.specs.Status.{numberOf}
-use Rattle.message.specs.declared.accessors.SourceId.{SourceId}
+use Rattle.message_rules.specs.declared.accessors.SourceId.{SourceId}
 use Rattle.session_table.specs.declared.record.Session.{Session}
 use Rattle.session_table.specs.Record.{noSource}
 use Rattle.session_table.specs.Source.{carried}

@@ -3,7 +3,7 @@ ghost use mathlib.Core.Path.{_≡_};
 ghost use Rattle.session_step.specs.Step.{steppedTo, stepOf};
 use crate::step::Answer;
 use crate::step::step;
-use message::accessors::SourceId;
+use message_rules::accessors::SourceId;
 use session_table::record::Session;
 
 // Steps, leaves the session afterwards in the lent record, and answers.

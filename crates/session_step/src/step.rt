@@ -1,7 +1,7 @@
 // One step of the session, by value.
 ghost use mathlib.Core.Path.{_≡_};
 ghost use Rattle.session_step.specs.Step.{pinOrReady, optionsFrom, optionsAfter, sourceAfter, accepted, refused, closed, follow, stepOf};
-use message::accessors::SourceId;
+use message_rules::accessors::SourceId;
 use session_table::record::Session;
 use session_table::record::State;
 use session_table::source;

@@ -1,7 +1,7 @@
 // The session record that a host keeps for a connection.
 ghost use mathlib.Core.Path.{_≡_};
 ghost use Rattle.session_table.specs.Record.{freshSession, isOpen};
-use message::accessors::SourceId;
+use message_rules::accessors::SourceId;
 
 pub enum State {
     Waiting,

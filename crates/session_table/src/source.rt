@@ -3,7 +3,7 @@ ghost use mathlib.Core.Path.{_≡_};
 ghost use Rattle.session_table.specs.Source.{sameBytes, carried, otherSource};
 use crate::record::Session;
 use crate::record::is_open;
-use message::accessors::SourceId;
+use message_rules::accessors::SourceId;
 
 // Whether two Source IDs have the same 16 bytes.
 pub(crate) fn same(a: &[u8; 16], b: &[u8; 16]) -> bool

@@ -2,8 +2,8 @@
 use crate::print::byte;
 use crate::print::number;
 use crate::print::text;
-use message::accessors;
-use message::record::Message;
+use message_rules::accessors;
+use message_rules::record::Message;
 use message_reader::Answer;
 use message_writer::Written;
 use message_writer::write;

@@ -1,7 +1,7 @@
 -- A message that is shown lies in the bytes that are not listed yet. Assumes nothing.
 use mathlib.Core.Path.{refl, sym, _∙_}
 use native.Mathlib.Omega.{arith}
-use Rattle.recording.proofs.Laws.Listing.{message-size}
+use Rattle.message_recording.proofs.Laws.Listing.{message-size}
 use borrow.Author.Needs.{needs}
 use Rattle.listing.proofs.show.Statement.{statement}
 use Rattle.listing.proofs.show.Tie as tie

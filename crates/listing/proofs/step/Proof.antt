@@ -3,8 +3,8 @@ use Prim.Native.Nat.{_-_}
 use native.Mathlib.Omega.{arith}
 use denote.Ref.{now}
 use lib.ListN.{take, drop}
-use Rattle.recording.specs.Theorems.{BoundedNeed}
-use Rattle.recording.proofs.Laws.Line.{bounded-need}
+use Rattle.message_recording.specs.Theorems.{BoundedNeed}
+use Rattle.message_recording.proofs.Laws.Line.{bounded-need}
 use Rattle.listing.proofs.Laws.Buffer.{part-bytes}
 use borrow.Author.Needs.{needs}
 use Rattle.listing.proofs.step.Statement.{statement}

@@ -12,16 +12,16 @@ use Rattle.wire.specs.Below.{allBelow}
 use Rattle.wire.specs.declared.status.Status.{Status}
 use Rattle.wire.specs.declared.status.Status.the-variants as status
 use Rattle.wire.proofs.Laws.Bool.{impossible}
-use Rattle.message.specs.declared.record.Field.{Field}
-use Rattle.message.specs.declared.record.Message.{Message}
+use Rattle.message_rules.specs.declared.record.Field.{Field}
+use Rattle.message_rules.specs.declared.record.Message.{Message}
 use Rattle.message_reader.specs.declared.Answer.{Answer}
 use Rattle.message_reader.specs.declared.Answer.the-variants as answer
-use Rattle.message.specs.Record.{absent, fieldOf, withField, emptyOf}
+use Rattle.message_rules.specs.Record.{absent, fieldOf, withField, emptyOf}
 use Rattle.message_reader.specs.declared.Tlv.the-variants as tlv
 use Rattle.message_reader.specs.declared.Verdict.{Verdict}
-use Rattle.message.specs.Rules.{rolesOf, seen}
+use Rattle.message_rules.specs.Rules.{rolesOf, seen}
 use Rattle.message_reader.specs.Checking.{tlvIn, notNeeded, verdictOf}
-use Rattle.message.proofs.Laws.Record.{field-with, field-empty}
+use Rattle.message_rules.proofs.Laws.Record.{field-with, field-empty}
 use Rattle.message_reader.proofs.Laws.Checking.{Checked, Whole, checked-start, start-record, checked-fits, checked-refused}
 use Rattle.message_reader.proofs.Laws.Checking.{checked-next, next-record, checked-complete, checked-missing}
 use Rattle.message_calls.specs.Locating.{none, high, fieldFrom, messageFrom, Located}

@@ -6,15 +6,15 @@ use native.Mathlib.Omega.{arith}
 use borrow.Author.Tests.{lt-ltb, le-ltb}
 use lib.ListN.{length}
 use Rattle.wire.specs.declared.status.Status.the-variants as status
-use Rattle.message.specs.declared.record.Message.{Message}
+use Rattle.message_rules.specs.declared.record.Message.{Message}
 use Rattle.message_reader.specs.declared.Answer.{Answer}
 use Rattle.message_reader.specs.declared.Answer.the-variants as reader
 use Rattle.message_writer.specs.declared.Written.{Written}
-use Rattle.message.specs.declared.accessors.SourceId.{SourceId}
+use Rattle.message_rules.specs.declared.accessors.SourceId.{SourceId}
 use Rattle.message_reader.specs.Reading.{commandIn, readMessage}
 use Rattle.wire.specs.Number.{number}
 use Rattle.message_writer.specs.Writing.{writeAnswer, output}
-use Rattle.message.specs.Accessors.{sourceOf}
+use Rattle.message_rules.specs.Accessors.{sourceOf}
 use Rattle.message_layout.specs.MessageLayout.{messageBytes, messageIn}
 use Rattle.little_endian.proofs.Laws.Layout.{laid-short}
 use Rattle.message_layout.proofs.Laws.MessageLayout.{length-message}

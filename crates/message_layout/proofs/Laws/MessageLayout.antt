@@ -8,16 +8,16 @@ use borrow.Author.Tests.{ne-eqb}
 use lib.ListN.{length, length-append}
 use Rattle.wire.specs.Splice.{splice}
 use Rattle.wire.proofs.Laws.Number.{number-small}
-use Rattle.message.specs.declared.record.Field.{Field}
-use Rattle.message.specs.declared.record.Message.{Message}
-use Rattle.message.specs.Record.{fieldOf}
-use Rattle.message.specs.Rules.{roleOf, foreign}
+use Rattle.message_rules.specs.declared.record.Field.{Field}
+use Rattle.message_rules.specs.declared.record.Message.{Message}
+use Rattle.message_rules.specs.Record.{fieldOf}
+use Rattle.message_rules.specs.Rules.{roleOf, foreign}
 use Rattle.message_reader.specs.Reading.{commandIn, typeAt, valueAt}
 use Rattle.message_reader.specs.Theorems.{Reached, AcceptedExactly}
 use Rattle.message_reader.specs.Theorems as given
 use Rattle.message_reader.proofs.Laws.Reading.{accepted-exactly}
-use Rattle.message.proofs.Laws.Record.{field-with, field-empty}
-use Rattle.message.proofs.Laws.Rules.{type-small, type-not-1}
+use Rattle.message_rules.proofs.Laws.Record.{field-with, field-empty}
+use Rattle.message_rules.proofs.Laws.Rules.{type-small, type-not-1}
 use Rattle.message_reader.proofs.Laws.WellFormed.{sound}
 use Rattle.little_endian.specs.Layout.{flag, laid}
 use Rattle.little_endian.specs.Little.{bytes, written}

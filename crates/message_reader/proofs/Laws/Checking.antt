@@ -12,19 +12,19 @@ use lib.Seq.{getD-set-same, getD-set-other}
 use Rattle.wire.specs.Below.{allBelow}
 use Rattle.wire.specs.declared.status.Status.{Status}
 use Rattle.wire.specs.declared.status.Status.the-variants as status
-use Rattle.message.specs.declared.record.Field.{Field}
-use Rattle.message.specs.declared.record.Message.{Message}
+use Rattle.message_rules.specs.declared.record.Field.{Field}
+use Rattle.message_rules.specs.declared.record.Message.{Message}
 use Rattle.message_reader.specs.declared.Tlv.{Tlv}
 use Rattle.message_reader.specs.declared.Tlv.the-variants as tlv
 use Rattle.message_reader.specs.declared.Answer.{Answer}
 use Rattle.message_reader.specs.declared.Answer.the-variants as answer
-use Rattle.message.specs.Rules.{entryOf, rolesOf, roleOf, foreign, needed, seen, lengthOk}
-use Rattle.message.specs.Record.{fieldOf, withField, emptyOf}
+use Rattle.message_rules.specs.Rules.{entryOf, rolesOf, roleOf, foreign, needed, seen, lengthOk}
+use Rattle.message_rules.specs.Record.{fieldOf, withField, emptyOf}
 use Rattle.message_reader.specs.Reading.{typeAt, lengthAt, nextAt, Step, tlvAt, hasNeeded, isComplete, lastOf, tlvsFrom}
 use Rattle.message_reader.specs.Checking.{tlvIn, stepOf, notNeeded}
 use Rattle.wire.proofs.Laws.Bool.{impossible, by-test}
-use Rattle.message.proofs.Laws.Rules.{eight-columns, type-small, type-not-1, role-not-seen}
-use Rattle.message.proofs.Laws.Record.{field-with, field-empty, command-with, command-empty}
+use Rattle.message_rules.proofs.Laws.Rules.{eight-columns, type-small, type-not-1, role-not-seen}
+use Rattle.message_rules.proofs.Laws.Record.{field-with, field-empty, command-with, command-empty}
 use Rattle.message_reader.proofs.Laws.Reading.{tlvs-known, tlvs-refused, tlvs-end}
 
 -- ---- one TLV

@@ -7,9 +7,9 @@ use native.Mathlib.Decide.{decLt}
 use borrow.Author.Tests.{lt-ltb, le-ltb}
 use lib.ListN.{length, getD}
 use Rattle.wire.specs.Status.{numberOf}
-use Rattle.message.specs.declared.record.Message.{Message}
+use Rattle.message_rules.specs.declared.record.Message.{Message}
 use Rattle.message_reader.specs.declared.Answer.the-variants as answer
-use Rattle.message.specs.Record.{withField, emptyOf}
+use Rattle.message_rules.specs.Record.{withField, emptyOf}
 use Rattle.message_reader.specs.Reading.{commandIn, typeAt, nextAt, valueAt, tlvsFrom, readMessage}
 use Rattle.message_reader.specs.Checking.{verdictOf}
 use Rattle.message_reader.specs.Fields.{walkedFrom, fieldsOf, FieldsOfAccepted}

@@ -11,13 +11,13 @@ use lib.ListN.{length, getD}
 use Rattle.wire.specs.Status.{numberOf}
 use Rattle.wire.specs.declared.status.Status.{Status}
 use Rattle.wire.specs.declared.status.Status.the-variants as status
-use Rattle.message.specs.declared.record.Message.{Message}
+use Rattle.message_rules.specs.declared.record.Message.{Message}
 use Rattle.message_reader.specs.declared.Answer.{Answer}
 use Rattle.message_reader.specs.declared.Answer.the-variants as answer
 use Rattle.message_reader.specs.declared.Header.{Header}
 use Rattle.message_reader.specs.declared.Header.the-variants as header
-use Rattle.message.specs.Rules.{roleOf, foreign, needed, lengthOk, knownCommand}
-use Rattle.message.specs.Record.{fieldOf, withField, emptyOf}
+use Rattle.message_rules.specs.Rules.{roleOf, foreign, needed, lengthOk, knownCommand}
+use Rattle.message_rules.specs.Record.{fieldOf, withField, emptyOf}
 use Rattle.message_reader.specs.Reading.{sizeIn, versionIn, commandIn, headerOf, typeAt, lengthAt, nextAt, valueAt, tlvAt}
 use Rattle.message_reader.specs.Reading.{Step, hasNeeded, isComplete, lastOf, goOn, tlvsFrom, afterHeader, readMessage}
 use Rattle.message_reader.specs.Checking.{verdictOf, IsAccepted}
@@ -26,7 +26,7 @@ use Rattle.message_reader.specs.Reading as step
 use Rattle.message_reader.specs.Theorems as given
 use Rattle.wire.proofs.Laws.Bool.{impossible, by-test, not-both}
 use Rattle.wire.proofs.Laws.Number.{number-small}
-use Rattle.message.proofs.Laws.Rules.{type-small}
+use Rattle.message_rules.proofs.Laws.Rules.{type-small}
 use Rattle.wire.proofs.Laws.Below.{below-all, all-below, one-below, one-fails}
 
 -- ---- one TLV

@@ -7,18 +7,18 @@ use mathlib.Core.Logic.{_⊎_, inl, inr, ⊎-elim}
 use native.Mathlib.Omega.{arith}
 use borrow.Author.Tests.{ne-eqb}
 use lib.ListN.{length}
-use Rattle.message.specs.declared.record.Field.{Field}
-use Rattle.message.specs.declared.record.Message.{Message}
-use Rattle.message.specs.Rules.{roleOf, foreign, knownCommand}
-use Rattle.message.specs.Record.{fieldOf, withField, emptyOf, sizeTo}
+use Rattle.message_rules.specs.declared.record.Field.{Field}
+use Rattle.message_rules.specs.declared.record.Message.{Message}
+use Rattle.message_rules.specs.Rules.{roleOf, foreign, knownCommand}
+use Rattle.message_rules.specs.Record.{fieldOf, withField, emptyOf, sizeTo}
 use Rattle.message_reader.specs.Reading.{commandIn, typeAt, nextAt, valueAt}
 use Rattle.message_reader.specs.Theorems.{Taken, Reached, Placed, Before, AcceptedExactly, AcceptedWellFormed}
 use Rattle.message_reader.specs.Theorems as given
 use Rattle.wire.proofs.Laws.Bool.{not-both}
-use Rattle.message.proofs.Laws.Rules.{type-small, type-not-1}
-use Rattle.message.proofs.Laws.Record.{field-with, field-empty, command-with, command-empty}
+use Rattle.message_rules.proofs.Laws.Rules.{type-small, type-not-1}
+use Rattle.message_rules.proofs.Laws.Record.{field-with, field-empty, command-with, command-empty}
 use Rattle.message_reader.proofs.Laws.Reading.{accepted-exactly}
-use Rattle.message.proofs.Laws.Size.{size-least, size-empty, size-with}
+use Rattle.message_rules.proofs.Laws.Size.{size-least, size-empty, size-with}
 
 -- m is the record of the TLVs up to `at`, which fill the bytes up to there
 pub record Sound (s : List ℕ) (at : ℕ) (m : Message) : Type 0 where

@@ -8,8 +8,8 @@ use borrow.Author.Needs.{needs}
 use borrow.Author.Tests.{ne-eqb, lt-ltb, le-ltb}
 use denote.Ref.{now}
 use lib.ListN.{length}
-use Rattle.message.specs.declared.record.Message.{Message}
-use Rattle.message.specs.Record.{withField, emptyOf}
+use Rattle.message_rules.specs.declared.record.Message.{Message}
+use Rattle.message_rules.specs.Record.{withField, emptyOf}
 use Rattle.message_reader.specs.Reading.{commandIn, typeAt}
 use Rattle.message_reader.specs.Fields.{walkedFrom, fieldsOf}
 use Rattle.message_reader.proofs.Laws.Fields.{walk-next, walk-end}

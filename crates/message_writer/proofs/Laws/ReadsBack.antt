@@ -14,25 +14,25 @@ use lib.ListN.{length, take, drop, getD, length-drop}
 use lib.Seq.{getD-append-add, drop-append-add, take-at, length-take-le}
 use Rattle.wire.specs.Number.{number, bytes}
 use Rattle.wire.specs.declared.status.Status.{Status}
-use Rattle.message.specs.declared.record.Field.{Field}
-use Rattle.message.specs.declared.record.Message.{Message}
+use Rattle.message_rules.specs.declared.record.Field.{Field}
+use Rattle.message_rules.specs.declared.record.Message.{Message}
 use Rattle.message_reader.specs.declared.Answer.the-variants as answer
 use Rattle.message_writer.specs.declared.Written.{Written}
 use Rattle.message_writer.specs.declared.Written.the-variants as written
-use Rattle.message.specs.Rules.{roleOf, foreign, needed}
-use Rattle.message.specs.Record.{absent, fieldOf, valueOf, withField, emptyOf, sizeTo}
+use Rattle.message_rules.specs.Rules.{roleOf, foreign, needed}
+use Rattle.message_rules.specs.Record.{absent, fieldOf, valueOf, withField, emptyOf, sizeTo}
 use Rattle.message_reader.specs.Reading.{commandIn, typeAt, lengthAt, nextAt, valueAt, readMessage}
 use Rattle.message_writer.specs.Writing.{writable, tlvBytes, bodyTo, headBytes, messageOf, writeAnswer, output}
 use Rattle.message_reader.specs.Theorems.{Headed, Taken, Reached, AcceptedExactly}
 use Rattle.message_writer.specs.Theorems.{SameMessage, ReadsBack}
 use Rattle.message_reader.specs.Theorems as given
 use Rattle.wire.proofs.Laws.Bool.{either, by-test}
-use Rattle.message.proofs.Laws.Rules.{type-small}
-use Rattle.message.proofs.Laws.Record.{field-same, field-other, field-empty, field-type, past, command-with, command-empty}
+use Rattle.message_rules.proofs.Laws.Rules.{type-small}
+use Rattle.message_rules.proofs.Laws.Record.{field-same, field-other, field-empty, field-type, past, command-with, command-empty}
 use Rattle.message_reader.proofs.Laws.Reading.{accepted-exactly}
-use Rattle.message.proofs.Laws.Size.{size-least, size-grows, size-there}
+use Rattle.message_rules.proofs.Laws.Size.{size-least, size-grows, size-there}
 use Rattle.message_writer.proofs.Laws.Writing.{ok-expected, ok-within, ok-fitting, ok-small, ok-absent}
-use Rattle.message.proofs.Laws.Size.{size-none}
+use Rattle.message_rules.proofs.Laws.Size.{size-none}
 use Rattle.message_writer.proofs.Laws.Writing.{body-there, known, ok-below, size-small, front-length, message-length, wrote}
 
 -- ---- the record of what is written

@@ -6,11 +6,11 @@ use mathlib.Core.List.{List, [], _++_, append-nil}
 use mathlib.Core.Logic.{⊎-elim}
 use native.Mathlib.Omega.{arith}
 use native.Mathlib.Nat.{eq-or-lt-of-le}
-use Rattle.message.specs.declared.record.Field.{Field}
-use Rattle.message.specs.declared.record.Message.{Message}
-use Rattle.message.specs.Record.{fieldOf, withField, emptyOf}
+use Rattle.message_rules.specs.declared.record.Field.{Field}
+use Rattle.message_rules.specs.declared.record.Message.{Message}
+use Rattle.message_rules.specs.Record.{fieldOf, withField, emptyOf}
 use Rattle.message_writer.specs.Writing.{tlvBytes, bodyTo}
-use Rattle.message.proofs.Laws.Record.{field-same, field-other, field-empty}
+use Rattle.message_rules.proofs.Laws.Record.{field-same, field-other, field-empty}
 
 pub body-empty : (s : List ℕ) (c k : ℕ) → bodyTo s (emptyOf c) k ≡ []
 unfolding bodyTo

@@ -12,23 +12,23 @@ use lib.ListN.{length, take, drop}
 use lib.Seq.{take-add, drop-cons, drop-drop, take-length}
 use Rattle.wire.specs.Number.{bytes}
 use Rattle.wire.proofs.Laws.Number.{writes-back, number-small}
-use Rattle.message.specs.declared.record.Field.{Field}
-use Rattle.message.specs.declared.record.Message.{Message}
+use Rattle.message_rules.specs.declared.record.Field.{Field}
+use Rattle.message_rules.specs.declared.record.Message.{Message}
 use Rattle.message_reader.specs.declared.Answer.the-variants as answer
 use Rattle.message_writer.specs.declared.Written.the-variants as written
-use Rattle.message.specs.Rules.{roleOf, foreign, needed}
-use Rattle.message.specs.Record.{fieldOf, withField, sizeTo}
+use Rattle.message_rules.specs.Rules.{roleOf, foreign, needed}
+use Rattle.message_rules.specs.Record.{fieldOf, withField, sizeTo}
 use Rattle.message_reader.specs.Reading.{commandIn, typeAt, lengthAt, nextAt, valueAt, readMessage}
 use Rattle.message_writer.specs.Writing.{fieldOk, writable, tlvBytes, bodyTo, headBytes, messageOf, output}
 use Rattle.message_reader.specs.Theorems.{Headed, Taken, Reached, Bytes, WellFormed, AcceptedExactly, AcceptedWellFormed}
 use Rattle.message_writer.specs.Theorems.{Rising, WritesBack}
 use Rattle.message_reader.specs.Theorems as given
 use Rattle.wire.proofs.Laws.Bool.{either, not-both}
-use Rattle.message.proofs.Laws.Rules.{type-small, type-not-1}
+use Rattle.message_rules.proofs.Laws.Rules.{type-small, type-not-1}
 use Rattle.wire.proofs.Laws.Below.{all-below}
-use Rattle.message.proofs.Laws.Record.{field-same, field-other}
+use Rattle.message_rules.proofs.Laws.Record.{field-same, field-other}
 use Rattle.message_reader.proofs.Laws.Reading.{accepted-exactly}
-use Rattle.message.proofs.Laws.Size.{size-grows, size-there}
+use Rattle.message_rules.proofs.Laws.Size.{size-grows, size-there}
 use Rattle.message_writer.proofs.Laws.Writing.{wrote}
 use Rattle.message_writer.proofs.Laws.WithField.{body-empty, body-with}
 use Rattle.message_reader.proofs.Laws.WellFormed.{sound, accepted-well-formed}

@@ -16,16 +16,16 @@ use Rattle.wire.specs.declared.status.Status.the-variants as status
 use Rattle.wire.proofs.Laws.Number.{length-bytes}
 use Rattle.wire.proofs.Laws.Splice.{length-splice}
 use Rattle.wire.proofs.Laws.Written.{next-bytes}
-use Rattle.message.specs.declared.record.Field.{Field}
-use Rattle.message.specs.declared.record.Message.{Message}
+use Rattle.message_rules.specs.declared.record.Field.{Field}
+use Rattle.message_rules.specs.declared.record.Message.{Message}
 use Rattle.message_writer.specs.declared.Written.the-variants as answer
-use Rattle.message.specs.Rules.{roleOf, foreign, needed, lengthOk, knownCommand}
+use Rattle.message_rules.specs.Rules.{roleOf, foreign, needed, lengthOk, knownCommand}
 use Rattle.wire.specs.Below.{allBelow}
-use Rattle.message.specs.Record.{fieldOf, valueOf, tlvSize, sizeTo}
+use Rattle.message_rules.specs.Record.{fieldOf, valueOf, tlvSize, sizeTo}
 use Rattle.message_writer.specs.Writing.{fieldOk, writable, tlvBytes, bodyTo, headBytes, messageOf, writeAnswer, output}
 use Rattle.wire.proofs.Laws.Bool.{either, both}
-use Rattle.message.proofs.Laws.Rules.{length-held}
-use Rattle.message.proofs.Laws.Size.{size-grows, size-least, size-there}
+use Rattle.message_rules.proofs.Laws.Rules.{length-held}
+use Rattle.message_rules.proofs.Laws.Size.{size-grows, size-least, size-there}
 use Rattle.wire.proofs.Laws.Below.{below-all}
 
 -- ---- bytes in the output

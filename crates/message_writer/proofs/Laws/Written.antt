@@ -9,18 +9,18 @@ use borrow.Author.Tests.{leb-false, eqb-true, ne-eqb, not-false}
 use lib.Dec.{leb, eqb}
 use lib.ListN.{length, drop, length-append, length-drop}
 use lib.Seq.{drop-at}
-use Rattle.message.specs.declared.record.Message.{Message}
+use Rattle.message_rules.specs.declared.record.Message.{Message}
 use Rattle.message_writer.specs.declared.Written.{Written}
-use Rattle.message.specs.Rules.{roleOf, foreign, needed, lengthOk, knownCommand}
+use Rattle.message_rules.specs.Rules.{roleOf, foreign, needed, lengthOk, knownCommand}
 use Rattle.wire.specs.Below.{allBelow}
-use Rattle.message.specs.Record.{fieldOf, sizeTo}
+use Rattle.message_rules.specs.Record.{fieldOf, sizeTo}
 use Rattle.message_writer.specs.Writing.{fieldOk, writable, messageOf, outputAfter, output}
 use Rattle.message_writer.specs.Theorems.{Unwritable, WrittenExactly, RestKept}
 use Rattle.message_writer.specs.Theorems as given
 use Rattle.wire.proofs.Laws.Bool.{either, by-test, not-both}
-use Rattle.message.proofs.Laws.Rules.{type-small}
+use Rattle.message_rules.proofs.Laws.Rules.{type-small}
 use Rattle.wire.proofs.Laws.Below.{one-fails}
-use Rattle.message.proofs.Laws.Record.{field-type}
+use Rattle.message_rules.proofs.Laws.Record.{field-type}
 use Rattle.message_writer.proofs.Laws.Writing.{ok-expected, ok-within, ok-fitting, ok-absent, known, ok-below, size-small}
 use Rattle.message_writer.proofs.Laws.Writing.{message-length, not-writable, no-room, wrote}
 use Rattle.message_writer.proofs.Laws.ReadsBack.{answer-wrote}

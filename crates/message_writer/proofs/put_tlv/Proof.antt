@@ -11,7 +11,7 @@ use Rattle.wire.specs.Number.{bytes, written}
 use Rattle.wire.specs.Splice.{splice}
 use Rattle.wire.proofs.Laws.Number.{length-bytes}
 use Rattle.wire.proofs.Laws.Splice.{part-back}
-use Rattle.message.specs.declared.record.Field.{Field}
+use Rattle.message_rules.specs.declared.record.Field.{Field}
 use Rattle.message_writer.specs.Writing.{tlvBytes}
 use Rattle.wire.proofs.Laws.Written.{first-number, next-number, next-bytes}
 use Rattle.message_writer.proofs.Laws.Writing.{one-byte}

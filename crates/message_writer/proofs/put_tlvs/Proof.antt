@@ -9,10 +9,10 @@ use denote.Ref.{now}
 use lib.ListN.{length}
 use Rattle.wire.specs.Splice.{splice}
 use Rattle.wire.proofs.Laws.Splice.{splice-none}
-use Rattle.message.specs.declared.record.Field.{Field}
-use Rattle.message.specs.Record.{sizeTo}
+use Rattle.message_rules.specs.declared.record.Field.{Field}
+use Rattle.message_rules.specs.Record.{sizeTo}
 use Rattle.message_writer.specs.Writing.{bodyTo}
-use Rattle.message.proofs.Laws.Size.{size-there, size-none}
+use Rattle.message_rules.proofs.Laws.Size.{size-there, size-none}
 use Rattle.message_writer.proofs.Laws.Writing.{body-none, laid-length, laid-next, tlv-within, tlv-small, tlv-room}
 use Rattle.message_writer.proofs.put_tlvs.Statement.{statement}
 use Rattle.message_writer.proofs.put_tlvs.Tie as tie

@@ -7,13 +7,13 @@ use mathlib.Core.Logic.{⊎-elim}
 use native.Mathlib.Omega.{arith}
 use borrow.Author.Needs.{needs}
 use borrow.Author.Tests.{not-true, not-false}
-use Rattle.message.specs.declared.record.Field.{Field}
-use Rattle.message.specs.declared.record.Message.{Message}
+use Rattle.message_rules.specs.declared.record.Field.{Field}
+use Rattle.message_rules.specs.declared.record.Message.{Message}
 use Rattle.wire.specs.Below.{allBelow}
-use Rattle.message.specs.Record.{fieldOf, sizeTo}
+use Rattle.message_rules.specs.Record.{fieldOf, sizeTo}
 use Rattle.message_writer.specs.Writing.{fieldOk}
 use Rattle.wire.proofs.Laws.Below.{below-none, below-next, one-below}
-use Rattle.message.proofs.Laws.Size.{size-there, size-none}
+use Rattle.message_rules.proofs.Laws.Size.{size-there, size-none}
 use Rattle.message_writer.proofs.Laws.Writing.{ok-small}
 use Rattle.message_writer.proofs.size_of.Statement.{statement}
 use Rattle.message_writer.proofs.size_of.Tie as tie

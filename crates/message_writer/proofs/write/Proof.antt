@@ -7,9 +7,9 @@ use native.Mathlib.Omega.{arith}
 use borrow.Author.Tests.{le-leb, lt-leb, not-true, not-false}
 use denote.Ref.{now}
 use lib.ListN.{length}
-use Rattle.message.specs.Record.{sizeTo}
+use Rattle.message_rules.specs.Record.{sizeTo}
 use Rattle.message_writer.specs.Writing.{writable}
-use Rattle.message.proofs.Laws.Size.{size-least}
+use Rattle.message_rules.proofs.Laws.Size.{size-least}
 use Rattle.message_writer.proofs.Laws.Writing.{not-writable, no-room, wrote, laid, sized-not, sized}
 use borrow.Author.Needs.{needs}
 use Rattle.message_writer.proofs.write.Statement.{statement}

@@ -13,7 +13,7 @@ use Rattle.wire.proofs.Laws.Bool.{by-test}
 use Rattle.message_reader.specs.declared.Answer.{Answer}
 use Rattle.message_reader.specs.declared.Answer.the-variants as reader
 use Rattle.message_reader.specs.Reading.{readMessage}
-use Rattle.message.specs.Accessors.{sourceOf, optionsOf}
+use Rattle.message_rules.specs.Accessors.{sourceOf, optionsOf}
 use Rattle.session_table.specs.declared.record.Session.{Session}
 use Rattle.session_table.specs.Record.{isOpen}
 use Rattle.session_step.specs.declared.step.Stepped.{Stepped}

@@ -9,7 +9,7 @@ use lib.Dec.{eqb}
 use Rattle.wire.specs.declared.status.Status.the-variants as status
 use Rattle.wire.specs.Status.{numberOf}
 use Rattle.wire.proofs.Laws.Bool.{impossible, either, not-both, both}
-use Rattle.message.specs.declared.accessors.SourceId.{SourceId}
+use Rattle.message_rules.specs.declared.accessors.SourceId.{SourceId}
 use Rattle.session_table.specs.declared.record.State.{State}
 use Rattle.session_table.specs.declared.record.State.the-variants as state
 use Rattle.session_table.specs.declared.record.Session.{Session}

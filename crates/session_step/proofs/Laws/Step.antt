@@ -7,7 +7,7 @@ use borrow.Author.Tests.{le-leb, leb-true}
 use lib.Dec.{leb}
 use Rattle.wire.proofs.Laws.Bool.{both}
 use Rattle.wire.specs.declared.status.Status.the-variants as status
-use Rattle.message.specs.declared.accessors.SourceId.{SourceId}
+use Rattle.message_rules.specs.declared.accessors.SourceId.{SourceId}
 use Rattle.session_table.specs.declared.record.Session.{Session}
 use Rattle.session_table.specs.declared.table.Next.the-variants as next
 use Rattle.session_table.specs.Record.{isOpen}

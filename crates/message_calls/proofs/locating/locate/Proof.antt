@@ -5,7 +5,7 @@ use native.Mathlib.Omega.{arith}
 use borrow.Author.Needs.{needs}
 use denote.Ref.{now}
 use lib.ListN.{length}
-use Rattle.message.specs.Record.{emptyOf}
+use Rattle.message_rules.specs.Record.{emptyOf}
 use Rattle.message_reader.specs.Reading.{commandIn, tlvsFrom, readMessage}
 use Rattle.message_reader.specs.Checking.{verdictOf}
 use Rattle.message_reader.proofs.Laws.Reading.{header-command, header-refused, headed-short, headed-read}

@@ -40,9 +40,9 @@ use denote.Triple.Spec.{Meets, tripleOf}
 use denote.Triple.Table.{entered, cited}
 use denote.Triple.Walked.{says, Stays, stay-ref, stay-dropped, walkOf, AllGo, goes-ref, goes-dropped, Walks, ends-at, walked, walk-meets}
 use denote.Exit.{yes}
-use Rattle.message.specs.declared.accessors.SourceId.{SourceId}
-use Rattle.message.proofs.accessors.SourceId as I
-use Rattle.message.proofs.accessors.SourceId.Laws as I′
+use Rattle.message_rules.specs.declared.accessors.SourceId.{SourceId}
+use Rattle.message_rules.proofs.accessors.SourceId as I
+use Rattle.message_rules.proofs.accessors.SourceId.Laws as I′
 use Rattle.session_table.specs.declared.record.Session.{Session}
 use Rattle.session_table.proofs.record.Session as S
 use Rattle.session_table.proofs.record.Session.Laws as S′

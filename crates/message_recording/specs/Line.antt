@@ -1,0 +1,33 @@
+-- A line of the listing (01, "Session listing"). Assumes nothing.
+use Prim.Native.Nat.{ℕ}
+use mathlib.Core.List.{List}
+use mathlib.Core.Bool.{cond}
+use lib.ListN.{length, take}
+use lib.Dec.{ltb, eqb}
+use Rattle.wire.specs.declared.status.Status.{Status}
+use Rattle.wire.specs.declared.status.Status.the-variants as status
+use Rattle.message_reader.specs.declared.Answer.{Answer}
+use Rattle.message_reader.specs.declared.Answer.the-variants as answer
+use Rattle.message_reader.specs.Reading.{sizeIn, readMessage}
+use Rattle.message_recording.specs.declared.line.Line.{Line}
+use Rattle.message_recording.specs.declared.line.Line.the-variants as line
+
+-- the status of the reader's answer
+abbrev pub statusOf : Answer → Status
+statusOf (answer.Accepted m) = status.Accepted
+statusOf (answer.Refused st place) = st
+
+-- what is shown of a message of n bytes: its command and size, or its refusal, whose place inside the message is not shown
+abbrev pub shown : ℕ → Answer → Line
+shown n (answer.Accepted m) = line.Message (m .command) n
+shown n (answer.Refused st place) = line.Refused st
+
+-- the line of the bytes s from one place on: none left is the end, "fewer than 4 bytes left is 1, then a Size below 4 is 2", fewer than Size
+-- 1; then the reader's answer on the message that Size cuts off
+unfoldable pub lineOf : List ℕ → Line
+lineOf s =
+    cond (eqb (length s) 0) line.End
+    (cond (ltb (length s) 4) (line.Refused status.Truncated)
+    (cond (ltb (sizeIn s) 4) (line.Refused status.WrongSize)
+    (cond (ltb (length s) (sizeIn s)) (line.Refused status.Truncated)
+    (shown (sizeIn s) (readMessage (take (sizeIn s) s))))))

@@ -1,0 +1,58 @@
+// A line of the listing.
+ghost use mathlib.Core.Path.{_≡_};
+ghost use Rattle.message_recording.specs.Line.{statusOf, lineOf};
+use message_reader::Answer;
+use wire::number::u16_at;
+use wire::status::Status;
+
+// What the listing shows at a place: an accepted message, what the bytes there are refused with, or that there are none.
+pub enum Line {
+    Message { command: u8, size: usize },
+    Refused { status: Status },
+    End,
+}
+
+// The status of the reader's answer.
+fn status_of(answer: Answer) -> Status
+    ensures { λ r. ⌜ r ≡ statusOf answer ⌝ }
+{
+    match answer {
+        Answer::Accepted(_) => Status::Accepted,
+        Answer::Refused { status, place: _ } => status,
+    }
+}
+
+// The line of the place where `bytes` begin. Bytes after the first message are not looked at.
+pub fn first_line(bytes: &[u8]) -> Line
+    ensures { λ r. ⌜ r ≡ lineOf (now (bytes .entry)) ⌝ }
+{
+    if bytes.len() == 0 {
+        return Line::End;
+    }
+    if bytes.len() < 4 {
+        return Line::Refused {
+            status: Status::Truncated,
+        };
+    }
+    let size = u16_at(bytes, 0) as usize;
+    if size < 4 {
+        return Line::Refused {
+            status: Status::WrongSize,
+        };
+    }
+    if bytes.len() < size {
+        return Line::Refused {
+            status: Status::Truncated,
+        };
+    }
+    let answer = message_reader::read(&bytes[..size]);
+    let Answer::Accepted(message) = answer else {
+        return Line::Refused {
+            status: status_of(answer),
+        };
+    };
+    Line::Message {
+        command: message.command,
+        size,
+    }
+}

@@ -1,0 +1,110 @@
+-- Laws of the two tables: each is a fact of every row. Assumes nothing.
+use Prim.Native.Nat.{ℕ, zero, suc, _%_, _≤_, _<_}
+use mathlib.Core.Path.{_≡_, refl, ap, _∙_}
+use mathlib.Core.List.{List, [], _∷_}
+use mathlib.Core.Bool.{Bool, true, false, not, _&&_}
+use native.Mathlib.Omega.{arith}
+use native.Mathlib.Decide.{decLt}
+use borrow.Author.Tests.{leb-true, eqb-false, not-true}
+use lib.Dec.{leb, eqb}
+use lib.ListN.{length, getD, List·getD-eq-default}
+use Rattle.message_rules.specs.Rules.{foreign, seen, noRoles, entryOf, rolesOf, roleOf, noLengths, lengthsOf, lengthOk}
+use Rattle.wire.proofs.Laws.Bool.{both}
+
+-- what holds of every row of the table, and of no command, holds of every command
+rows
+    : (P : List ℕ → Type 0) → P noRoles → P (rolesOf 1) → P (rolesOf 2) → P (rolesOf 3) → P (rolesOf 4) → P (rolesOf 5) → P (rolesOf 6)
+    → (c : ℕ) → P (rolesOf c)
+unfolding rolesOf
+rows P z a b d e f g zero = z
+rows P z a b d e f g (suc zero) = a
+rows P z a b d e f g (suc (suc zero)) = b
+rows P z a b d e f g (suc (suc (suc zero))) = d
+rows P z a b d e f g (suc (suc (suc (suc zero)))) = e
+rows P z a b d e f g (suc (suc (suc (suc (suc zero))))) = f
+rows P z a b d e f g (suc (suc (suc (suc (suc (suc zero)))))) = g
+rows P z a b d e f g (suc (suc (suc (suc (suc (suc (suc c))))))) = z
+
+pub no-command : (c : ℕ) → (c ≡ 1 → ⊥) → (c ≡ 2 → ⊥) → (c ≡ 3 → ⊥) → (c ≡ 4 → ⊥) → (c ≡ 5 → ⊥) → (c ≡ 6 → ⊥) → rolesOf c ≡ noRoles
+unfolding rolesOf
+no-command zero a b d e f g = refl
+no-command (suc zero) a b d e f g = absurd (a refl)
+no-command (suc (suc zero)) a b d e f g = absurd (b refl)
+no-command (suc (suc (suc zero))) a b d e f g = absurd (d refl)
+no-command (suc (suc (suc (suc zero)))) a b d e f g = absurd (e refl)
+no-command (suc (suc (suc (suc (suc zero))))) a b d e f g = absurd (f refl)
+no-command (suc (suc (suc (suc (suc (suc zero)))))) a b d e f g = absurd (g refl)
+no-command (suc (suc (suc (suc (suc (suc (suc c))))))) a b d e f g = refl
+
+pub eight-columns : (c : ℕ) → length (rolesOf c) ≡ 8
+unfolding rolesOf
+eight-columns c = rows (λ (r : List ℕ). length r ≡ 8) refl refl refl refl refl refl refl c
+
+pub no-type : (c t : ℕ) → 7 < t → roleOf c t ≡ foreign
+unfolding roleOf
+no-type c t h = List·getD-eq-default (rolesOf c) foreign {n = t} (omega (arith, eight-columns c))
+
+-- no role is the number that stands for a type that was there
+none-seen : List ℕ → Bool
+none-seen [] = true
+none-seen (x ∷ r) = not (eqb x seen) && none-seen r
+
+entry-not-seen : (r : List ℕ) (t : ℕ) → none-seen r ≡ true → eqb (entryOf r t) seen ≡ false
+unfolding none-seen
+entry-not-seen [] t h = refl
+entry-not-seen (x ∷ r) zero h = not-true (eqb x seen) (both (not (eqb x seen)) (none-seen r) h .0)
+entry-not-seen (x ∷ r) (suc t) h = entry-not-seen r t (both (not (eqb x seen)) (none-seen r) h .1)
+
+pub role-not-seen : (c t : ℕ) → eqb (roleOf c t) seen ≡ false
+unfolding roleOf rolesOf none-seen
+role-not-seen c t =
+    entry-not-seen (rolesOf c) t (rows (λ (r : List ℕ). none-seen r ≡ true) refl refl refl refl refl refl refl c)
+
+-- there is no type 1
+pub no-type-1 : (c : ℕ) → roleOf c 1 ≡ foreign
+unfolding roleOf rolesOf
+no-type-1 c = rows (λ (r : List ℕ). getD r 1 foreign ≡ foreign) refl refl refl refl refl refl refl c
+
+-- a type that is not foreign to a command is below 8, and not 1
+pub type-small : (c t : ℕ) → eqb (roleOf c t) foreign ≡ false → t < 8
+type-small c t e = elim (decLt t 8) [
+  | yes h ↦ h
+  | no h ↦ absurd (eqb-false (roleOf c t) foreign e (no-type c t (omega arith)))
+]
+
+pub type-not-1 : (c t : ℕ) → eqb (roleOf c t) foreign ≡ false → t ≡ 1 → ⊥
+type-not-1 c t e q = eqb-false (roleOf c t) foreign e (ap (roleOf c) q ∙ no-type-1 c)
+
+pub no-lengths
+    : (t : ℕ) → (t ≡ 0 → ⊥) → (t ≡ 2 → ⊥) → (t ≡ 3 → ⊥) → (t ≡ 4 → ⊥) → (t ≡ 5 → ⊥) → (t ≡ 6 → ⊥) → (t ≡ 7 → ⊥) → lengthsOf t ≡ noLengths
+unfolding lengthsOf
+no-lengths zero z a b d e f g = absurd (z refl)
+no-lengths (suc zero) z a b d e f g = refl
+no-lengths (suc (suc zero)) z a b d e f g = absurd (a refl)
+no-lengths (suc (suc (suc zero))) z a b d e f g = absurd (b refl)
+no-lengths (suc (suc (suc (suc zero)))) z a b d e f g = absurd (d refl)
+no-lengths (suc (suc (suc (suc (suc zero))))) z a b d e f g = absurd (e refl)
+no-lengths (suc (suc (suc (suc (suc (suc zero)))))) z a b d e f g = absurd (f refl)
+no-lengths (suc (suc (suc (suc (suc (suc (suc zero))))))) z a b d e f g = absurd (g refl)
+no-lengths (suc (suc (suc (suc (suc (suc (suc (suc t)))))))) z a b d e f g = refl
+
+-- two bytes hold the greatest length, and lengths are multiples of no 0
+pub length-rule : (t : ℕ) → (lengthsOf t .1 ≤ 65535) × (0 < lengthsOf t .2)
+unfolding lengthsOf
+length-rule zero = omega arith
+length-rule (suc zero) = omega arith
+length-rule (suc (suc zero)) = omega arith
+length-rule (suc (suc (suc zero))) = omega arith
+length-rule (suc (suc (suc (suc zero)))) = omega arith
+length-rule (suc (suc (suc (suc (suc zero))))) = omega arith
+length-rule (suc (suc (suc (suc (suc (suc zero)))))) = omega arith
+length-rule (suc (suc (suc (suc (suc (suc (suc zero))))))) = omega arith
+length-rule (suc (suc (suc (suc (suc (suc (suc (suc t)))))))) = omega arith
+
+pub length-held : (t n : ℕ) → lengthOk t n ≡ true → n ≤ 65535
+unfolding lengthOk
+length-held t n e =
+    let l = lengthsOf t in
+    let h = both (leb (l .0) n) (leb n (l .1) && eqb (n % (l .2)) 0) e in
+    let k = both (leb n (l .1)) (eqb (n % (l .2)) 0) (h .1) in
+    omega (arith, leb-true n (l .1) (k .0), length-rule t .0)
