@@ -2,7 +2,7 @@
 ghost use mathlib.Core.Path.{_≡_};
 ghost use lib.ListN.{length};
 ghost use Rattle.session_table.specs.Record.{freshSession};
-ghost use Rattle.little_endian.specs.Layout.{laid};
+ghost use Rattle.wire.specs.Laid.{laid};
 ghost use Rattle.session_layout.specs.SessionLayout.{sessionBytes};
 ghost use Rattle.host_answers.specs.Fresh.{freshAnswer};
 ghost use Rattle.session_calls.specs.SessionCalls.{after, sessionStep, sessionMessage};

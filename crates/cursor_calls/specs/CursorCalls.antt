@@ -17,7 +17,7 @@ use Rattle.cursor_store.specs.declared.storing.StoreAnswer.{StoreAnswer}
 use Rattle.cursor_store.specs.declared.storing.StoreAnswer.the-variants as store
 use Rattle.cursor_store.specs.Storing as storing
 use Rattle.cursor_store.specs.Storing.{stored}
-use Rattle.little_endian.specs.Layout.{laid}
+use Rattle.wire.specs.Laid.{laid}
 use Rattle.cursor_layout.specs.PointerLayout.{pointerBytes, pointerOf}
 use Rattle.cursor_layout.specs.PictureLayout.{pictureBytes, pictureOf}
 use Rattle.host_answers.specs.declared.Answer.{Answer}

@@ -3,7 +3,7 @@ ghost use mathlib.Core.Path.{_≡_};
 ghost use lib.ListN.{length};
 ghost use Rattle.cursor_pointer.specs.Pointer.{freshPointer};
 ghost use Rattle.cursor_picture.specs.Picture.{freshPicture};
-ghost use Rattle.little_endian.specs.Layout.{laid};
+ghost use Rattle.wire.specs.Laid.{laid};
 ghost use Rattle.cursor_layout.specs.PointerLayout.{pointerBytes};
 ghost use Rattle.cursor_layout.specs.PictureLayout.{pictureBytes};
 ghost use Rattle.host_answers.specs.Fresh.{freshAnswer};

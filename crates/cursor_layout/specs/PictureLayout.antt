@@ -6,7 +6,8 @@ use mathlib.Core.List.{List, _++_}
 use lib.ListN.{length}
 use Rattle.cursor_fragment.specs.declared.start.Start.{Start}
 use Rattle.cursor_picture.specs.declared.Picture.{Picture}
-use Rattle.little_endian.specs.Layout.{flag, isSet, laid}
+use Rattle.wire.specs.Laid.{laid}
+use Rattle.little_endian.specs.Layout.{flag, isSet}
 use Rattle.little_endian.specs.Little.{numberAt, bytes}
 
 -- the last six bytes: whether a start was seen, and its own fields

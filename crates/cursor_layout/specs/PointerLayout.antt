@@ -6,7 +6,8 @@ use lib.ListN.{length}
 use lib.Signed.{mag}
 use Rattle.wire.specs.Signed.{signed, unsigned}
 use Rattle.cursor_pointer.specs.declared.Pointer.{Pointer}
-use Rattle.little_endian.specs.Layout.{flag, isSet, laid}
+use Rattle.wire.specs.Laid.{laid}
+use Rattle.little_endian.specs.Layout.{flag, isSet}
 use Rattle.little_endian.specs.Little.{numberAt, bytes}
 
 -- its bytes

@@ -13,7 +13,7 @@ ghost use mathlib.Core.Path.{_≡_};
 ghost use Prim.Native.Nat.{_≤_};
 ghost use lib.ListN.{length};
 ghost use Rattle.wire.specs.Splice.{splice};
-ghost use Rattle.little_endian.specs.Layout.{laid};
+ghost use Rattle.wire.specs.Laid.{laid};
 ghost use Rattle.cursor_layout.specs.PictureLayout.{startBytes, pictureBytes, pictureOf};
 use cursor_fragment::start::Start;
 use little_endian::put_u8;

@@ -6,7 +6,7 @@
 //       3      2  x, two's complement
 //       5      2  y, two's complement
 ghost use mathlib.Core.Path.{_≡_};
-ghost use Rattle.little_endian.specs.Layout.{laid};
+ghost use Rattle.wire.specs.Laid.{laid};
 ghost use Rattle.cursor_layout.specs.PointerLayout.{pointerBytes, pointerOf};
 use little_endian::put_u8;
 use little_endian::put_u16;

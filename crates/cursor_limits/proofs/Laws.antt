@@ -1,5 +1,3 @@
 pub mod Grammar
-pub mod Hex
-pub mod Range
 pub mod Theorems
 pub mod Writing

@@ -2,21 +2,15 @@
 use Prim.Native.Nat.{ℕ}
 use mathlib.Core.Path.{_≡_, refl}
 use mathlib.Core.List.{List, [], _∷_}
-use Rattle.cursor_limits.specs.declared.hex.Digits.the-variants as digits
 use Rattle.cursor_limits.specs.declared.value.Xor.the-variants as xor
 use Rattle.cursor_limits.specs.declared.value.Value.the-variants as value
 use Rattle.cursor_limits.specs.declared.value.Answer.the-variants as answer
 use Rattle.wire.specs.Below.{allBelow}
-use Rattle.cursor_limits.specs.Range.{within}
-use Rattle.cursor_limits.specs.Hex.{digitValue, isDigit, number, readDigits, digitOf, spellDigits}
-use Rattle.cursor_limits.specs.Word.{lowered, sameLetter, spells}
+use Rattle.text.specs.Range.{within}
+use Rattle.text.specs.Hex.{digitValue, isDigit, number, readDigits, digitOf, spellDigits}
+use Rattle.text.specs.Word.{lowered, sameLetter, spells}
 use Rattle.cursor_limits.specs.Reading.{answerNumber, notGrammar, readField, readLimits, readValue}
 use Rattle.cursor_limits.specs.Writing.{spellField, spellLimits, spelling, writtenNumber, writeAnswer}
-
--- 01, P11: `0100` is 256
-pub p11 : readDigits (0x30 ∷ 0x31 ∷ 0x30 ∷ 0x30 ∷ []) ≡ digits.Number 256
-unfolding within allBelow digitValue isDigit number readDigits
-p11 = refl
 
 -- `full 0100 0080 C351`
 abbrev pub line : List ℕ

@@ -6,16 +6,17 @@ use lib.Dec.{eqb}
 use lib.ListN.{length, getD, take, drop}
 use Rattle.wire.specs.declared.status.Status.the-variants as status
 use Rattle.wire.specs.Status.{numberOf}
-use Rattle.cursor_limits.specs.declared.hex.Digits.{Digits}
-use Rattle.cursor_limits.specs.declared.hex.Digits.the-variants as digits
+use Rattle.text.specs.declared.hex.Digits.{Digits}
+use Rattle.text.specs.declared.hex.Digits.the-variants as digits
 use Rattle.cursor_limits.specs.declared.value.Xor.{Xor}
 use Rattle.cursor_limits.specs.declared.value.Xor.the-variants as xor
 use Rattle.cursor_limits.specs.declared.value.Value.the-variants as value
 use Rattle.cursor_limits.specs.declared.value.Answer.{Answer}
 use Rattle.cursor_limits.specs.declared.value.Answer.the-variants as answer
-use Rattle.cursor_limits.specs.Grammar.{noneWord, fullWord, space}
-use Rattle.cursor_limits.specs.Hex.{readDigits}
-use Rattle.cursor_limits.specs.Word.{spells}
+use Rattle.text.specs.Abnf.{space}
+use Rattle.cursor_limits.specs.Grammar.{noneWord, fullWord}
+use Rattle.text.specs.Hex.{readDigits}
+use Rattle.text.specs.Word.{spells}
 
 -- the paper's number of an answer, and the place of a refusal
 abbrev pub answerNumber : Answer → ℕ

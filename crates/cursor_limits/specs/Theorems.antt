@@ -1,18 +1,17 @@
 -- What holds of the cursor limits value: the definitions that the contracts cite, `readValue` and `spelling`, are the grammar's. The proofs
 -- stand in proofs/Laws/Theorems.antt. Assumes nothing.
-use Prim.Native.Nat.{ℕ, _-_, _≤_, _<_}
+use Prim.Native.Nat.{ℕ, _≤_, _<_}
 use mathlib.Core.Path.{_≡_}
 use mathlib.Core.List.{List, _++_, map}
-use mathlib.Core.Bool.{cond}
 use lib.ListN.{length, take, drop}
 use Rattle.cursor_limits.specs.declared.value.Limits.{Limits}
 use Rattle.cursor_limits.specs.declared.value.Value.{Value}
 use Rattle.cursor_limits.specs.declared.value.Value.the-variants as value
 use Rattle.cursor_limits.specs.declared.value.Answer.the-variants as answer
 use Rattle.cursor_limits.specs.declared.value.Written.the-variants as written
-use Rattle.cursor_limits.specs.Range.{within}
 use Rattle.cursor_limits.specs.Grammar.{Means}
-use Rattle.cursor_limits.specs.Word.{lowered, copied}
+use Rattle.wire.specs.Laid.{laid}
+use Rattle.text.specs.Word.{lowered, raised}
 use Rattle.cursor_limits.specs.Reading.{answerNumber, answerPlace, readValue}
 use Rattle.cursor_limits.specs.Writing.{spelling, writtenNumber, writtenPlace, writeAnswer}
 
@@ -48,11 +47,7 @@ TenIfShort =
 unfoldable pub ReadsBack : Type 0
 ReadsBack =
     (v : Value) (out : List ℕ) (n : ℕ) → Sized v → writeAnswer v (length out) ≡ written.Accepted n
-    → readValue (take n (copied (spelling v) out)) ≡ answer.Accepted v
-
--- the byte b, a small letter made a capital
-unfoldable pub raised : ℕ → ℕ
-raised b = cond (within 0x61 0x7A b) (b - 0x20) b
+    → readValue (take n (laid (spelling v) out)) ≡ answer.Accepted v
 
 -- s with its word in small letters and its digits in capitals
 unfoldable pub canonical : List ℕ → List ℕ

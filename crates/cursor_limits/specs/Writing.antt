@@ -1,5 +1,5 @@
 -- What writing a cursor limits value gives (01, "Cursor limits value": "words in small letters, hex digits in capitals"). Every record has a
--- spelling, so 18 is never given. The output afterwards is `copied (spelling v) out`. Assumes nothing.
+-- spelling, so 18 is never given. The output afterwards is `laid (spelling v) out`. Assumes nothing.
 use Prim.Native.Nat.{ℕ}
 use mathlib.Core.List.{List, _∷_, _++_}
 use mathlib.Core.Bool.{cond}
@@ -14,8 +14,9 @@ use Rattle.cursor_limits.specs.declared.value.Value.{Value}
 use Rattle.cursor_limits.specs.declared.value.Value.the-variants as value
 use Rattle.cursor_limits.specs.declared.value.Written.{Written}
 use Rattle.cursor_limits.specs.declared.value.Written.the-variants as answer
-use Rattle.cursor_limits.specs.Grammar.{noneWord, fullWord, space}
-use Rattle.cursor_limits.specs.Hex.{spellDigits}
+use Rattle.text.specs.Abnf.{space}
+use Rattle.cursor_limits.specs.Grammar.{noneWord, fullWord}
+use Rattle.text.specs.Hex.{spellDigits}
 
 abbrev pub spellXor : Xor → List ℕ
 spellXor xor.None = noneWord

@@ -1,8 +1,6 @@
 // The cursor limits value: what a sink answers for the RTSP parameter `microsoft_cursor` (003 section 1.7), read and written.
-mod hex;
 mod reading;
 pub mod value;
-mod word;
 mod writing;
 
 pub use reading::read;

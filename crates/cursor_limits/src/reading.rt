@@ -2,13 +2,13 @@
 ghost use mathlib.Core.Path.{_≡_};
 ghost use lib.ListN.{length};
 ghost use Rattle.cursor_limits.specs.Reading.{notGrammar, readField, readLimits, readValue};
-use crate::hex;
-use crate::hex::Digits;
+use text::hex;
+use text::hex::Digits;
 use crate::value::Answer;
 use crate::value::Limits;
 use crate::value::Value;
 use crate::value::Xor;
-use crate::word;
+use text::word;
 use wire::status::Status;
 
 // The refusal of a text that is not of the grammar.

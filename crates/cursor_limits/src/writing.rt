@@ -3,14 +3,14 @@
 ghost use mathlib.Core.Path.{_≡_};
 ghost use Prim.Native.Nat.{_≤_};
 ghost use lib.ListN.{length};
-ghost use Rattle.cursor_limits.specs.Word.{copied};
+ghost use Rattle.wire.specs.Laid.{laid};
 ghost use Rattle.cursor_limits.specs.Writing.{spellXor, spellField, spellLimits, spelling, writeAnswer};
-use crate::hex;
+use text::hex;
 use crate::value::Limits;
 use crate::value::Value;
 use crate::value::Written;
 use crate::value::Xor;
-use crate::word;
+use text::word;
 use wire::status::Status;
 
 // The word for the xor support.
@@ -36,7 +36,7 @@ fn write_field(out: &mut [u8], number: u16)
 // so that it stays one store in the compiled code.
 fn write_limits(out: &mut [u8], limits: Limits)
     requires { ⌜ 19 ≤ length (now out) ⌝ }
-    ensures { λ _. ⌜ now (out .exit) ≡ copied (spellLimits limits) (now (out .entry)) ⌝ }
+    ensures { λ _. ⌜ now (out .exit) ≡ laid (spellLimits limits) (now (out .entry)) ⌝ }
 {
     let xor = limits.xor;
     let word = word_of(xor);
@@ -54,7 +54,7 @@ fn write_limits(out: &mut [u8], limits: Limits)
 // Writes a value into the first bytes of `out` and answers their number; where `out` is too short, nothing changes.
 pub fn write(value: Value, out: &mut [u8]) -> Written
     ensures answer { λ r. ⌜ r ≡ writeAnswer value (length (now (out .entry))) ⌝ }
-    ensures bytes { λ _. ⌜ now (out .exit) ≡ copied (spelling value) (now (out .entry)) ⌝ }
+    ensures bytes { λ _. ⌜ now (out .exit) ≡ laid (spelling value) (now (out .entry)) ⌝ }
 {
     match value {
         Value::NotSupported => {

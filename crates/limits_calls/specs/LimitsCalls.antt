@@ -13,9 +13,8 @@ use Rattle.cursor_limits.specs.declared.value.Answer.the-variants as reader
 use Rattle.cursor_limits.specs.declared.value.Written.{Written as WriterAnswer}
 use Rattle.cursor_limits.specs.declared.value.Written.the-variants as writer
 use Rattle.cursor_limits.specs.Reading.{readValue}
-use Rattle.cursor_limits.specs.Word.{copied}
+use Rattle.wire.specs.Laid.{laid}
 use Rattle.cursor_limits.specs.Writing.{spelling, writeAnswer}
-use Rattle.little_endian.specs.Layout.{laid}
 use Rattle.limits_layout.specs.LimitsLayout.{limitsBytes, limitsIn}
 use Rattle.host_answers.specs.declared.Answer.{Answer}
 use Rattle.host_answers.specs.declared.Written.{Written}
@@ -54,4 +53,4 @@ limitsWritten xs out = cond (ltb (length xs) 8) (notWritten status.NoRoom) (writ
 
 -- the output afterwards
 unfoldable pub limitsOutput : List ℕ → List ℕ → List ℕ
-limitsOutput xs out = cond (ltb (length xs) 8) out (copied (spelling (limitsIn xs)) out)
+limitsOutput xs out = cond (ltb (length xs) 8) out (laid (spelling (limitsIn xs)) out)

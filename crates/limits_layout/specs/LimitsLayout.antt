@@ -9,7 +9,7 @@ use Rattle.cursor_limits.specs.declared.value.Xor.{Xor}
 use Rattle.cursor_limits.specs.declared.value.Xor.the-variants as xor
 use Rattle.cursor_limits.specs.declared.value.Value.{Value}
 use Rattle.cursor_limits.specs.declared.value.Value.the-variants as value
-use Rattle.little_endian.specs.Layout.{laid}
+use Rattle.wire.specs.Laid.{laid}
 use Rattle.little_endian.specs.Little.{numberAt, bytes}
 
 -- the XOR operation: 0 for no, any other byte for yes, written as 1

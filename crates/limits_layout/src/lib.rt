@@ -8,7 +8,7 @@
 //       4      2  the largest height
 //       6      2  the UDP port
 ghost use mathlib.Core.Path.{_≡_};
-ghost use Rattle.little_endian.specs.Layout.{laid};
+ghost use Rattle.wire.specs.Laid.{laid};
 ghost use Rattle.limits_layout.specs.LimitsLayout.{xorByte, xorOf, numberBytes, limitsBytes, limitsIn};
 use cursor_limits::value::Limits;
 use cursor_limits::value::Value;

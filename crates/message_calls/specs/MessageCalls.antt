@@ -17,7 +17,7 @@ use Rattle.message_rules.specs.declared.accessors.SourceId.{SourceId}
 use Rattle.message_reader.specs.Reading.{readMessage}
 use Rattle.message_writer.specs.Writing.{writeAnswer, output}
 use Rattle.message_rules.specs.Accessors.{portOf, optionsOf, sourceOf}
-use Rattle.little_endian.specs.Layout.{laid}
+use Rattle.wire.specs.Laid.{laid}
 use Rattle.message_layout.specs.MessageLayout.{messageBytes, messageIn}
 use Rattle.host_answers.specs.declared.Answer.{Answer}
 use Rattle.host_answers.specs.declared.Number.{Number}

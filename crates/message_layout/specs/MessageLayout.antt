@@ -9,7 +9,8 @@ use Rattle.message_reader.specs.declared.Answer.the-variants as answer
 use Rattle.message_rules.specs.Record.{fieldOf}
 use Rattle.message_reader.specs.Reading.{readMessage}
 use Rattle.message_reader.specs.Theorems.{Bytes}
-use Rattle.little_endian.specs.Layout.{flag, isSet, laid}
+use Rattle.wire.specs.Laid.{laid}
+use Rattle.little_endian.specs.Layout.{flag, isSet}
 use Rattle.little_endian.specs.Little.{numberAt, bytes}
 
 -- a field: whether it is there, the place and the length of its value

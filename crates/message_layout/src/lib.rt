@@ -14,7 +14,7 @@ ghost use mathlib.Core.Path.{_≡_};
 ghost use Prim.Native.Nat.{_+_, _≤_};
 ghost use lib.ListN.{length};
 ghost use Rattle.wire.specs.Splice.{splice};
-ghost use Rattle.little_endian.specs.Layout.{laid};
+ghost use Rattle.wire.specs.Laid.{laid};
 ghost use Rattle.message_layout.specs.MessageLayout.{fieldBytes, fieldIn, messageBytes, messageIn};
 use little_endian::put_u8;
 use little_endian::put_u32;

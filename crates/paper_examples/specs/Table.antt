@@ -33,10 +33,10 @@ use Rattle.cursor_packet.specs.Frame.{frameChecks}
 use Rattle.cursor_packet.specs.Position.{positionChecks, positionOf, readPosition}
 use Rattle.cursor_fragment.specs.Continuation.{continuationOf}
 use Rattle.cursor_fragment.specs.Fragment.{takesType, headerOf as fragmentHeader, imageData, offsetOf, outside, fragmentFrame, fragmentChecks, fragmentStatus}
-use Rattle.cursor_limits.specs.declared.hex.Digits.{Digits}
-use Rattle.cursor_limits.specs.declared.hex.Digits.the-variants as hexadecimal
-use Rattle.cursor_limits.specs.Range.{within}
-use Rattle.cursor_limits.specs.Hex.{digitValue, isDigit, number as hexNumber, readDigits}
+use Rattle.text.specs.declared.hex.Digits.{Digits}
+use Rattle.text.specs.declared.hex.Digits.the-variants as hexadecimal
+use Rattle.text.specs.Range.{within}
+use Rattle.text.specs.Hex.{digitValue, isDigit, number as hexNumber, readDigits}
 
 -- A, the message of the table, after its Size: Version, Command, a Friendly Name, the RTSP Port 1C44, a Source ID of sixteen bytes 07
 afterSize : List ℕ

@@ -13,7 +13,7 @@ use Rattle.session_step.specs.declared.step.Answer.{Answer}
 use Rattle.session_step.specs.declared.step.Stepped.{Stepped}
 use Rattle.session_step.specs.Step.{stepOf}
 use Rattle.session_step.specs.Message.{onMessage}
-use Rattle.little_endian.specs.Layout.{laid}
+use Rattle.wire.specs.Laid.{laid}
 use Rattle.session_layout.specs.SessionLayout.{sourceAt, stateNumber, sessionBytes, sessionOf}
 use Rattle.host_answers.specs.declared.Step.{Step}
 

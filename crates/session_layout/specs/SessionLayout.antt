@@ -9,7 +9,8 @@ use Rattle.message_rules.specs.declared.accessors.SourceId.{SourceId}
 use Rattle.session_table.specs.declared.record.State.{State}
 use Rattle.session_table.specs.declared.record.State.the-variants as state
 use Rattle.session_table.specs.declared.record.Session.{Session}
-use Rattle.little_endian.specs.Layout.{flag, isSet, laid}
+use Rattle.wire.specs.Laid.{laid}
+use Rattle.little_endian.specs.Layout.{flag, isSet}
 use Rattle.little_endian.specs.Little.{numberAt, bytes}
 
 -- the numbers of the states, from 0 on; any greater number is Closed

@@ -9,7 +9,7 @@ ghost use mathlib.Core.Path.{_≡_};
 ghost use Prim.Native.Nat.{_≤_};
 ghost use lib.ListN.{length};
 ghost use Rattle.wire.specs.Splice.{splice};
-ghost use Rattle.little_endian.specs.Layout.{laid};
+ghost use Rattle.wire.specs.Laid.{laid};
 ghost use Rattle.session_layout.specs.SessionLayout.{stateOf, stateNumber, idAt, sourceAt, sessionBytes, sessionOf};
 use little_endian::put_u8;
 use little_endian::u8_at;

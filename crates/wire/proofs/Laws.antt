@@ -1,5 +1,6 @@
 pub mod Below
 pub mod Bool
+pub mod Laid
 pub mod Number
 pub mod Sequence
 pub mod Signed

@@ -1,7 +1,7 @@
 -- The fresh record is laid, and the length stays. Assumes nothing.
 use mathlib.Core.Path.{_∙_}
 use denote.Ref.{now}
-use Rattle.little_endian.proofs.Laws.Layout.{length-laid}
+use Rattle.wire.proofs.Laws.Laid.{length-laid}
 use borrow.Author.Needs.{needs}
 use Rattle.cursor_calls.proofs.picture_fresh.Statement.{statement}
 use Rattle.cursor_calls.proofs.picture_fresh.Tie as tie

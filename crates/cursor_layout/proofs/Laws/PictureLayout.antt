@@ -6,7 +6,8 @@ use mathlib.Core.List.{List, [], _++_}
 use lib.ListN.{length}
 use Rattle.cursor_fragment.specs.declared.start.Start.{Start}
 use Rattle.cursor_picture.specs.declared.Picture.{Picture}
-use Rattle.little_endian.specs.Layout.{flag, laid}
+use Rattle.wire.specs.Laid.{laid}
+use Rattle.little_endian.specs.Layout.{flag}
 use Rattle.little_endian.specs.Little.{bytes}
 use Rattle.cursor_layout.specs.PictureLayout.{startBytes, pictureBytes, pictureOf, PictureReadsBack}
 use Rattle.little_endian.proofs.Laws.Layout.{Begins, laid-begins, before, number-in, flag-in}

@@ -11,7 +11,8 @@ use mir.ValLaws.{toZ-ofZ, ofZ-fits}
 use Rattle.wire.specs.Signed.{signed, unsigned}
 use Rattle.wire.proofs.Laws.Signed.{signed-toZ, unsigned-ofZ}
 use Rattle.cursor_pointer.specs.declared.Pointer.{Pointer}
-use Rattle.little_endian.specs.Layout.{flag, laid}
+use Rattle.wire.specs.Laid.{laid}
+use Rattle.little_endian.specs.Layout.{flag}
 use Rattle.little_endian.specs.Little.{bytes}
 use Rattle.cursor_layout.specs.PointerLayout.{pointerBytes, pointerOf, PointerReadsBack}
 use Rattle.little_endian.proofs.Laws.Layout.{Begins, laid-begins, before, number-in, flag-in}

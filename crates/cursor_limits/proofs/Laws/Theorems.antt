@@ -1,5 +1,5 @@
 -- The theorems on the cursor limits value: a string of the grammar is a word of four bytes and three fields of five. Assumes nothing.
-use Prim.Native.Nat.{ℕ, suc, _+_}
+use Prim.Native.Nat.{ℕ, suc}
 use mathlib.Core.Path.{_≡_, refl, sym, ap, subst, _∙_}
 use mathlib.Core.List.{List, [], _∷_, _++_, map, map-append}
 use mathlib.Core.Logic.{_⊎_, inl, inr, ⊎-elim}
@@ -11,8 +11,8 @@ use lib.ListN.{length, getD, take, drop, take-append-drop, length-append, length
 use lib.Seq.{drop-cons, drop-drop, drop-at, take-at, take-all, drop-length}
 use Rattle.wire.specs.declared.status.Status.the-variants as status
 use Rattle.wire.proofs.Laws.Splice.{part-of-splice}
-use Rattle.cursor_limits.specs.declared.hex.Digits.{Digits}
-use Rattle.cursor_limits.specs.declared.hex.Digits.the-variants as digits
+use Rattle.text.specs.declared.hex.Digits.{Digits}
+use Rattle.text.specs.declared.hex.Digits.the-variants as digits
 use Rattle.cursor_limits.specs.declared.value.Xor.{Xor}
 use Rattle.cursor_limits.specs.declared.value.Xor.the-variants as xor
 use Rattle.cursor_limits.specs.declared.value.Limits.{Limits}
@@ -21,17 +21,21 @@ use Rattle.cursor_limits.specs.declared.value.Value.the-variants as valu
 use Rattle.cursor_limits.specs.declared.value.Answer.{Answer}
 use Rattle.cursor_limits.specs.declared.value.Answer.the-variants as answer
 use Rattle.cursor_limits.specs.declared.value.Written.the-variants as written
-use Rattle.cursor_limits.specs.Grammar.{noneWord, fullWord, space, HexDigs, XorSupport, xor-none, xor-full, SinkCursorCaps, caps, Means, not-supported, supported}
+use Rattle.text.specs.Abnf.{space, HexDigs}
+use Rattle.cursor_limits.specs.Grammar.{noneWord, fullWord, XorSupport, xor-none, xor-full, SinkCursorCaps, caps, Means, not-supported, supported}
 use Rattle.wire.specs.Below.{allBelow}
-use Rattle.cursor_limits.specs.Range.{within}
-use Rattle.cursor_limits.specs.Hex.{readDigits}
-use Rattle.cursor_limits.specs.Word.{lowered, sameLetter, spells, copied}
+use Rattle.text.specs.Range.{within}
+use Rattle.text.specs.Hex.{readDigits}
+use Rattle.wire.specs.Laid.{laid}
+use Rattle.text.specs.Word.{lowered, sameLetter, spells, raised}
 use Rattle.cursor_limits.specs.Reading.{answerNumber, answerPlace, notGrammar, readField, limitsOf, part, readLimits, readValue}
 use Rattle.cursor_limits.specs.Writing.{spellXor, spellField, spellLimits, spelling, writeAnswer}
-use Rattle.cursor_limits.specs.Theorems.{AcceptsGrammar, RefusesTheRest, TenIfShort, OneMeaning, Sized, none-sized, limits-sized, ReadsBack, raised, canonical, Canonical}
+use Rattle.cursor_limits.specs.Theorems.{AcceptsGrammar, RefusesTheRest, TenIfShort, OneMeaning, Sized, none-sized, limits-sized, ReadsBack, canonical, Canonical}
 use Rattle.wire.proofs.Laws.Bool.{impossible}
-use Rattle.cursor_limits.proofs.Laws.Grammar.{quoted-length, quoted-lowered, quoted-spells, spells-quoted, none-small, full-small, full-not-none, hexdigs-length, hexdigs-read, read-hexdigs, hexdigs-small, spelled-hexdigs, hexdigs-raised}
-use Rattle.cursor_limits.proofs.Laws.Writing.{length-part, copied-fits}
+use Rattle.text.proofs.Laws.Abnf.{quoted-length, quoted-lowered, quoted-spells, spells-quoted, hexdigs-length, hexdigs-read, read-hexdigs, hexdigs-small, spelled-hexdigs, hexdigs-raised}
+use Rattle.cursor_limits.proofs.Laws.Grammar.{none-small, full-small, full-not-none}
+use Rattle.wire.proofs.Laws.Laid.{laid-fits}
+use Rattle.cursor_limits.proofs.Laws.Writing.{length-part}
 
 -- A string of the grammar is read as its meaning.
 
@@ -238,19 +242,19 @@ spelling-means (limits-sized {l} w h p) =
 -- a writer that answers n has laid down a spelling of n bytes
 spelled-out
     : (v : Value) (out : List ℕ) (n : ℕ) → writeAnswer v (length out) ≡ written.Accepted n
-    → take n (copied (spelling v) out) ≡ spelling v
+    → take n (laid (spelling v) out) ≡ spelling v
 unfolding writeAnswer
 spelled-out v out n e = go (leb (length (spelling v)) (length out)) refl e
   where
     go
         : (b : Bool) → leb (length (spelling v)) (length out) ≡ b
         → cond b (written.Accepted (length (spelling v))) (written.Refused status.NoRoom 0) ≡ written.Accepted n
-        → take n (copied (spelling v) out) ≡ spelling v
+        → take n (laid (spelling v) out) ≡ spelling v
     go true h f =
         let size : length (spelling v) ≡ n = cc in
         rw (
           sym size,
-          copied-fits (spelling v) out (leb-true (length (spelling v)) (length out) h),
+          laid-fits (spelling v) out (leb-true (length (spelling v)) (length out) h),
         ) (part-of-splice 0 (spelling v) out (omega arith))
     go false h f = impossible (cc)
 

@@ -10,17 +10,18 @@ use lib.ListN.{length, getD, take, drop, set, length-append, length-take, length
 use lib.Seq.{drop-append-seam, drop-cons, drop-length, length-take-le}
 use Rattle.wire.specs.declared.status.Status.the-variants as status
 use Rattle.wire.specs.Splice.{splice}
+use Rattle.wire.specs.Laid.{laid}
+use Rattle.wire.proofs.Laws.Laid.{laid-fits, laid-short}
+use Rattle.text.specs.Abnf.{space}
+use Rattle.text.specs.Hex.{spellDigits}
+use Rattle.text.proofs.Laws.Hex.{length-digits}
 use Rattle.wire.proofs.Laws.Splice.{length-splice, splice-next, part-back}
 use Rattle.cursor_limits.specs.declared.value.Xor.{Xor}
 use Rattle.cursor_limits.specs.declared.value.Xor.the-variants as xor
 use Rattle.cursor_limits.specs.declared.value.Limits.{Limits}
 use Rattle.cursor_limits.specs.declared.value.Value.{Value}
 use Rattle.cursor_limits.specs.declared.value.Written.the-variants as answer
-use Rattle.cursor_limits.specs.Grammar.{space}
-use Rattle.cursor_limits.specs.Word.{copied}
-use Rattle.cursor_limits.specs.Hex.{spellDigits}
 use Rattle.cursor_limits.specs.Writing.{spellXor, spellField, spellLimits, spelling, writeAnswer}
-use Rattle.cursor_limits.proofs.Laws.Hex.{length-digits}
 
 pub length-xor : (x : Xor) → length (spellXor x) ≡ 4
 length-xor xor.None = refl
@@ -34,17 +35,6 @@ pub length-limits : (l : Limits) → length (spellLimits l) ≡ 19
 unfolding spellLimits
 length-limits l =
     simp (length-append, length-xor (l .xor), length-field (l .width), length-field (l .height), length-field (l .port))
-
-pub copied-fits : (w out : List ℕ) → length w ≤ length out → copied w out ≡ splice 0 w out
-unfolding copied
-copied-fits w out h = simp (le-leb (length w) (length out) h)
-
-pub length-copied : (w out : List ℕ) → length w ≤ length out → length (copied w out) ≡ length out
-length-copied w out h = rw (copied-fits w out h) (length-splice 0 w out (omega arith))
-
-pub copied-short : (w out : List ℕ) → length out < length w → copied w out ≡ out
-unfolding copied
-copied-short w out h = simp (lt-leb (length w) (length out) h)
 
 pub length-part : (at n : ℕ) (xs : List ℕ) → at + n ≤ length xs → length (take n (drop at xs)) ≡ n
 length-part at n xs h = simp (length-take, length-drop) (omega arith)
@@ -111,7 +101,7 @@ over-first x fs out h =
 -- three fields, and the word right before them
 pub limits-written
     : (l : Limits) (out : List ℕ) → 19 ≤ length out
-    → copied (spellXor (l .xor)) (splice 4 (spellFields (l .width ∷ l .height ∷ l .port ∷ [])) out) ≡ copied (spellLimits l) out
+    → laid (spellXor (l .xor)) (splice 4 (spellFields (l .width ∷ l .height ∷ l .port ∷ [])) out) ≡ laid (spellLimits l) out
 unfolding spellLimits spellFields
 limits-written l out room =
     let x = spellXor (l .xor) in
@@ -121,19 +111,19 @@ limits-written l out room =
     let n : length fs ≡ 15 = length-fields (l .width ∷ l .height ∷ l .port ∷ []) in
     let size = length-limits l in
     let same : length (splice 4 fs out) ≡ length out = length-splice 4 fs out (omega arith) in
-    rw (copied-fits x (splice 4 fs out) (omega arith), copied-fits (spellLimits l) out (omega arith), all)
+    rw (laid-fits x (splice 4 fs out) (omega arith), laid-fits (spellLimits l) out (omega arith), all)
     (ap (λ (m : ℕ). splice 0 x (splice m fs out)) (sym one) ∙ over-first x fs out (omega arith))
 
 -- what a value of n bytes gives, where the output is too short and where it is not
 module _ (v : Value) (n : ℕ) (out : List ℕ) (size : length (spelling v) ≡ n) where
-  pub refused : length out < n → (answer.Refused status.NoRoom 0 ≡ writeAnswer v (length out)) × (out ≡ copied (spelling v) out)
+  pub refused : length out < n → (answer.Refused status.NoRoom 0 ≡ writeAnswer v (length out)) × (out ≡ laid (spelling v) out)
   unfolding writeAnswer
   refused h =
       let short : length out < length (spelling v) = omega arith in
-      (simp (lt-leb (length (spelling v)) (length out) short), sym (copied-short (spelling v) out short))
+      (simp (lt-leb (length (spelling v)) (length out) short), sym (laid-short (spelling v) out short))
 
   pub accepted
-      : (after : List ℕ) → n ≤ length out → after ≡ copied (spelling v) out
-      → (answer.Accepted n ≡ writeAnswer v (length out)) × (after ≡ copied (spelling v) out)
+      : (after : List ℕ) → n ≤ length out → after ≡ laid (spelling v) out
+      → (answer.Accepted n ≡ writeAnswer v (length out)) × (after ≡ laid (spelling v) out)
   unfolding writeAnswer
   accepted after h e = (simp (size, le-leb n (length out) h), e)

@@ -11,10 +11,10 @@ use Rattle.cursor_limits.specs.declared.value.Answer.{Answer}
 use Rattle.cursor_limits.specs.declared.value.Answer.the-variants as reader
 use Rattle.cursor_limits.specs.declared.value.Written.{Written}
 use Rattle.cursor_limits.specs.Reading.{readValue}
-use Rattle.cursor_limits.specs.Word.{copied}
+use Rattle.wire.specs.Laid.{laid}
 use Rattle.cursor_limits.specs.Writing.{spelling, writeAnswer}
 use Rattle.limits_layout.specs.LimitsLayout.{limitsBytes, limitsIn}
-use Rattle.little_endian.proofs.Laws.Layout.{laid-short}
+use Rattle.wire.proofs.Laws.Laid.{laid-short}
 use Rattle.limits_layout.proofs.Laws.LimitsLayout.{length-limits}
 use Rattle.host_answers.specs.Answers.{short}
 use Rattle.limits_calls.specs.LimitsCalls.{answerOf, readAnswer, recordOf, readRecord, notWritten, writtenOf, limitsWritten, limitsOutput}
@@ -39,9 +39,9 @@ module _ (xs out : List ℕ) where
 
   pub write-answered
       : (a : Written) (v : Value) (after : List ℕ) → 8 ≤ length xs → v ≡ limitsIn xs → writeAnswer v (length out) ≡ a
-      → after ≡ copied (spelling v) out → (writtenOf a ≡ limitsWritten xs out) × (after ≡ limitsOutput xs out)
+      → after ≡ laid (spelling v) out → (writtenOf a ≡ limitsWritten xs out) × (after ≡ limitsOutput xs out)
   unfolding limitsWritten limitsOutput
   write-answered a v after h i e o = (
     simp (le-ltb (length xs) 8 h) (ap writtenOf (sym e) ∙ ap (λ (w : Value). writtenOf (writeAnswer w (length out))) i),
-    simp (le-ltb (length xs) 8 h) (o ∙ ap (λ (w : Value). copied (spelling w) out) i),
+    simp (le-ltb (length xs) 8 h) (o ∙ ap (λ (w : Value). laid (spelling w) out) i),
   )

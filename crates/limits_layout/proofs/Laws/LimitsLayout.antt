@@ -8,7 +8,7 @@ use Rattle.cursor_limits.specs.declared.value.Xor.{Xor}
 use Rattle.cursor_limits.specs.declared.value.Xor.the-variants as xor
 use Rattle.cursor_limits.specs.declared.value.Value.{Value}
 use Rattle.cursor_limits.specs.declared.value.Value.the-variants as value
-use Rattle.little_endian.specs.Layout.{laid}
+use Rattle.wire.specs.Laid.{laid}
 use Rattle.limits_layout.specs.LimitsLayout.{xorByte, xorOf, numberBytes, limitsBytes, limitsIn, LimitsBack}
 use Rattle.little_endian.specs.Little.{numberAt, bytes, written}
 use Rattle.little_endian.proofs.Laws.Layout.{nothing, next, whole, Begins, laid-begins, before, number-in}

@@ -2,7 +2,7 @@
 use mathlib.Core.Path.{sym, ap, _∙_}
 use denote.Ref.{now}
 use Rattle.cursor_limits.specs.declared.value.Value.{Value}
-use Rattle.little_endian.specs.Layout.{laid}
+use Rattle.wire.specs.Laid.{laid}
 use Rattle.limits_layout.specs.LimitsLayout.{limitsBytes}
 use borrow.Author.Needs.{needs}
 use Rattle.limits_layout.proofs.write.Statement.{statement}

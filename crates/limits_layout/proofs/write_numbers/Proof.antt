@@ -3,7 +3,7 @@ use native.Mathlib.Omega.{arith}
 use mathlib.Core.Path.{sym}
 use denote.Ref.{now}
 use Rattle.limits_layout.specs.LimitsLayout.{numberBytes}
-use Rattle.little_endian.proofs.Laws.Layout.{laid-short}
+use Rattle.wire.proofs.Laws.Laid.{laid-short}
 use Rattle.limits_layout.proofs.Laws.LimitsLayout.{length-numbers, numbers-written}
 use borrow.Author.Needs.{needs}
 use Rattle.limits_layout.proofs.write_numbers.Statement.{statement}

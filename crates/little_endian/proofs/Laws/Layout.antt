@@ -6,14 +6,14 @@ use mathlib.Core.Bool.{Bool, true, false}
 use mathlib.Core.List.{List, [], _++_}
 use native.Mathlib.Omega.{arith}
 use mir.Val.{boolByte}
-use borrow.Author.Tests.{le-leb, lt-leb, leb-true}
-use lib.Dec.{leb}
+use borrow.Author.Tests.{le-leb}
 use lib.ListN.{length, getD, length-append, List·getD-append}
 use lib.Seq.{getD-append-add}
 use Rattle.wire.specs.Splice.{splice}
 use Rattle.wire.proofs.Laws.Splice.{length-splice, splice-none, splice-next, in-part}
-use Rattle.wire.proofs.Laws.Bool.{by-test}
-use Rattle.little_endian.specs.Layout.{flag, isSet, laid}
+use Rattle.wire.specs.Laid.{laid}
+use Rattle.wire.proofs.Laws.Laid.{laid-fits, length-laid}
+use Rattle.little_endian.specs.Layout.{flag, isSet}
 use Rattle.little_endian.specs.Little.{numberAt, bytes, written}
 use Rattle.little_endian.proofs.Laws.Little.{number-same, number-bytes, length-bytes}
 
@@ -53,21 +53,6 @@ module _ {at to : ℕ} {ds xs ys : List ℕ} (w : Written at to ds xs ys) where
 pub whole : {to : ℕ} {ds xs ys : List ℕ} → Written 0 to ds xs ys → to ≤ length xs → ys ≡ laid ds xs
 unfolding laid
 whole {to} {ds} {xs} w h = let d = w .end in simp (le-leb (length ds) (length xs) (omega arith)) (w .all)
-
-pub laid-fits : (ds xs : List ℕ) → length ds ≤ length xs → laid ds xs ≡ splice 0 ds xs
-unfolding laid
-laid-fits ds xs h = simp (le-leb (length ds) (length xs) h)
-
-pub laid-short : (ds xs : List ℕ) → length xs < length ds → laid ds xs ≡ xs
-unfolding laid
-laid-short ds xs h = simp (lt-leb (length ds) (length xs) h)
-
-pub length-laid : (ds xs : List ℕ) → length (laid ds xs) ≡ length xs
-unfolding laid
-length-laid ds xs =
-    by-test (λ (ys : List ℕ). length ys ≡ length xs) (leb (length ds) (length xs)) (splice 0 ds xs) xs
-    (λ e. length-splice 0 ds xs (omega (arith, leb-true (length ds) (length xs) e)))
-    (λ e. refl)
 
 -- a flag as code has it
 pub flag-byte : (b : Bool) → boolByte b ≡ flag b

@@ -16,7 +16,7 @@ use Rattle.wire.specs.Number.{number}
 use Rattle.message_writer.specs.Writing.{writeAnswer, output}
 use Rattle.message_rules.specs.Accessors.{sourceOf}
 use Rattle.message_layout.specs.MessageLayout.{messageBytes, messageIn}
-use Rattle.little_endian.proofs.Laws.Layout.{laid-short}
+use Rattle.wire.proofs.Laws.Laid.{laid-short}
 use Rattle.message_layout.proofs.Laws.MessageLayout.{length-message}
 use Rattle.host_answers.specs.declared.Yes.{Yes}
 use Rattle.host_answers.specs.Answers.{short}

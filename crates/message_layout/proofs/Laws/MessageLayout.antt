@@ -1,6 +1,6 @@
 -- Fields written one right after the other are the record's bytes, and each reads back at its place. Assumes nothing.
 use Prim.Native.Nat.{ℕ, _+_, _^_, _≤_, _<_}
-use mathlib.Core.Path.{_≡_, sym, _∙_}
+use mathlib.Core.Path.{_≡_, sym}
 use mathlib.Core.List.{List, [], _++_, append-assoc}
 use mathlib.Core.Logic.{⊎-elim}
 use native.Mathlib.Omega.{arith}
@@ -19,7 +19,8 @@ use Rattle.message_reader.proofs.Laws.Reading.{accepted-exactly}
 use Rattle.message_rules.proofs.Laws.Record.{field-with, field-empty}
 use Rattle.message_rules.proofs.Laws.Rules.{type-small, type-not-1}
 use Rattle.message_reader.proofs.Laws.WellFormed.{sound}
-use Rattle.little_endian.specs.Layout.{flag, laid}
+use Rattle.wire.specs.Laid.{laid}
+use Rattle.little_endian.specs.Layout.{flag}
 use Rattle.little_endian.specs.Little.{bytes, written}
 use Rattle.message_layout.specs.MessageLayout.{fieldBytes, fieldIn, messageBytes, messageIn, Fits, MessageBack, AcceptedBack}
 use Rattle.little_endian.proofs.Laws.Layout.{nothing, next, next-part, whole, Begins, laid-begins, before-part, before, number-in, flag-in}

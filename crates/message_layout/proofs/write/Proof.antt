@@ -3,7 +3,7 @@ use native.Mathlib.Omega.{arith}
 use mathlib.Core.Path.{sym}
 use denote.Ref.{now}
 use Rattle.message_layout.specs.MessageLayout.{messageBytes}
-use Rattle.little_endian.proofs.Laws.Layout.{laid-short}
+use Rattle.wire.proofs.Laws.Laid.{laid-short}
 use Rattle.message_layout.proofs.Laws.MessageLayout.{length-message, message-written}
 use borrow.Author.Needs.{needs}
 use Rattle.message_layout.proofs.write.Statement.{statement}

@@ -1,7 +1,7 @@
 -- The fresh record is laid, and the length stays. Assumes nothing.
 use mathlib.Core.Path.{_∙_}
 use denote.Ref.{now}
-use Rattle.little_endian.proofs.Laws.Layout.{length-laid}
+use Rattle.wire.proofs.Laws.Laid.{length-laid}
 use borrow.Author.Needs.{needs}
 use Rattle.session_calls.proofs.fresh.Statement.{statement}
 use Rattle.session_calls.proofs.fresh.Tie as tie

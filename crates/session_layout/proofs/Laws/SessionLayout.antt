@@ -10,10 +10,12 @@ use Rattle.scan.specs.Bytes.{copied}
 use Rattle.session_table.specs.declared.record.State.{State}
 use Rattle.session_table.specs.declared.record.State.the-variants as state
 use Rattle.session_table.specs.declared.record.Session.{Session}
-use Rattle.little_endian.specs.Layout.{flag, laid}
+use Rattle.wire.specs.Laid.{laid}
+use Rattle.little_endian.specs.Layout.{flag}
 use Rattle.little_endian.specs.Little.{bytes}
 use Rattle.session_layout.specs.SessionLayout.{stateOf, stateNumber, idAt, sessionBytes, sessionOf, SessionReadsBack}
-use Rattle.little_endian.proofs.Laws.Layout.{laid-fits, Begins, laid-begins, before-part, before, number-in, flag-in}
+use Rattle.wire.proofs.Laws.Laid.{laid-fits}
+use Rattle.little_endian.proofs.Laws.Layout.{Begins, laid-begins, before-part, before, number-in, flag-in}
 
 pub session-length : (s : Session) → length (s .source .bytes) ≡ 16 → length (sessionBytes s) ≡ 19
 unfolding sessionBytes bytes

@@ -4,7 +4,8 @@ use native.Mathlib.Omega.{arith}
 use lib.ListN.{length}
 use denote.Ref.{now}
 use Rattle.session_layout.specs.SessionLayout.{sessionBytes}
-use Rattle.little_endian.proofs.Laws.Layout.{nothing, next, next-as, next-part, whole, laid-short, flag-byte}
+use Rattle.wire.proofs.Laws.Laid.{laid-short}
+use Rattle.little_endian.proofs.Laws.Layout.{nothing, next, next-as, next-part, whole, flag-byte}
 use Rattle.session_layout.proofs.Laws.SessionLayout.{session-length}
 use borrow.Author.Needs.{needs}
 use Rattle.session_layout.proofs.write.Statement.{statement}

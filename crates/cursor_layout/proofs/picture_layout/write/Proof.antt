@@ -4,7 +4,8 @@ use native.Mathlib.Omega.{arith}
 use denote.Ref.{now}
 use Rattle.little_endian.specs.Little.{bytes}
 use Rattle.cursor_layout.specs.PictureLayout.{startBytes, pictureBytes}
-use Rattle.little_endian.proofs.Laws.Layout.{nothing, next, next-as, next-part, whole, laid-short, flag-byte}
+use Rattle.wire.proofs.Laws.Laid.{laid-short}
+use Rattle.little_endian.proofs.Laws.Layout.{nothing, next, next-as, next-part, whole, flag-byte}
 use Rattle.cursor_layout.proofs.Laws.PictureLayout.{start-length}
 use borrow.Author.Needs.{needs}
 use Rattle.cursor_layout.proofs.picture_layout.write.Statement.{statement}

@@ -8,7 +8,8 @@ use denote.Ref.{now}
 use Rattle.wire.specs.Signed.{unsigned}
 use Rattle.little_endian.specs.Little.{bytes}
 use Rattle.cursor_layout.specs.PointerLayout.{pointerBytes}
-use Rattle.little_endian.proofs.Laws.Layout.{nothing, next, next-as, whole, laid-short, flag-byte}
+use Rattle.wire.proofs.Laws.Laid.{laid-short}
+use Rattle.little_endian.proofs.Laws.Layout.{nothing, next, next-as, whole, flag-byte}
 use borrow.Author.Needs.{needs}
 use Rattle.cursor_layout.proofs.pointer_layout.write.Statement.{statement}
 use Rattle.cursor_layout.proofs.pointer_layout.write.Tie as tie

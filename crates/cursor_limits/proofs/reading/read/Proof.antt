@@ -6,7 +6,7 @@ use borrow.Author.Needs.{needs}
 use borrow.Author.Tests.{eq-eqb, ne-eqb}
 use denote.Ref.{now}
 use Rattle.cursor_limits.specs.Grammar.{noneWord}
-use Rattle.cursor_limits.specs.Word.{spells}
+use Rattle.text.specs.Word.{spells}
 use Rattle.cursor_limits.specs.Reading.{readValue}
 use Rattle.cursor_limits.proofs.reading.read.Statement.{statement}
 use Rattle.cursor_limits.proofs.reading.read.Tie as tie

@@ -7,8 +7,8 @@ use borrow.Author.Tests.{eq-eqb, ne-eqb}
 use denote.Ref.{now}
 use lib.ListN.{length, getD, drop, length-drop}
 use lib.Seq.{take-all}
-use Rattle.cursor_limits.specs.Grammar.{space}
-use Rattle.cursor_limits.specs.Hex.{readDigits}
+use Rattle.text.specs.Abnf.{space}
+use Rattle.text.specs.Hex.{readDigits}
 use Rattle.cursor_limits.specs.Reading.{readField}
 use Rattle.cursor_limits.proofs.reading.read_field.Statement.{statement}
 use Rattle.cursor_limits.proofs.reading.read_field.Tie as tie

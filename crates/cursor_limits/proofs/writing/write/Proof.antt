@@ -4,7 +4,7 @@ use borrow.Author.Needs.{needs}
 use denote.Ref.{now}
 use lib.ListN.{length}
 use Rattle.cursor_limits.specs.declared.value.Value.{Value}
-use Rattle.cursor_limits.specs.Word.{copied}
+use Rattle.wire.specs.Laid.{laid}
 use Rattle.cursor_limits.specs.Writing.{spelling}
 use Rattle.cursor_limits.proofs.Laws.Writing.{length-limits, refused, accepted}
 use Rattle.cursor_limits.proofs.writing.write.Statement.{statement}
@@ -31,7 +31,7 @@ returns-3 c =
     let e = f .before .enum-told .given .1 in
     let n : length (spelling (a .value)) ≡ 4 = ap (λ (v : Value). length (spelling v)) e in
     accepted (a .value) 4 (now (a .out)) n _ (f .if1 .left)
-    (k .copy .ensures ∙ ap (λ (v : Value). copied (spelling v) (now (a .out))) (sym e))
+    (k .copy .ensures ∙ ap (λ (v : Value). laid (spelling v) (now (a .out))) (sym e))
 
 returns-4 : tie.Need-returns-4
 returns-4 c =
@@ -42,7 +42,7 @@ returns-4 c =
     let e = v .value .given .1 in
     let n : length (spelling (a .value)) ≡ 19 = ap (λ (w : Value). length (spelling w)) e ∙ length-limits _ in
     accepted (a .value) 19 (now (a .out)) n _ (f .if2 .left)
-    (k .write-limits .ensures ∙ ap (λ (w : Value). copied (spelling w) (now (a .out))) (sym e))
+    (k .write-limits .ensures ∙ ap (λ (w : Value). laid (spelling w) (now (a .out))) (sym e))
 
 pub write-spec : {M : Type 1} → statement M
 write-spec =

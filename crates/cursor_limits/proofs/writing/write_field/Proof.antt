@@ -4,7 +4,7 @@ use native.Mathlib.Omega.{arith}
 use borrow.Author.Needs.{needs}
 use denote.Ref.{now}
 use lib.ListN.{length, set, length-set}
-use Rattle.cursor_limits.specs.Grammar.{space}
+use Rattle.text.specs.Abnf.{space}
 use Rattle.cursor_limits.proofs.Laws.Writing.{length-field, length-part, field-written}
 use Rattle.cursor_limits.proofs.writing.write_field.Statement.{statement}
 use Rattle.cursor_limits.proofs.writing.write_field.Tie as tie

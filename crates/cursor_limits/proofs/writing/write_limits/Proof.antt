@@ -7,8 +7,9 @@ use denote.Ref.{now}
 use lib.ListN.{length, drop}
 use Rattle.wire.specs.Splice.{splice}
 use Rattle.wire.proofs.Laws.Splice.{splice-none}
+use Rattle.wire.proofs.Laws.Laid.{length-laid}
 use Rattle.cursor_limits.specs.Writing.{spellLimits}
-use Rattle.cursor_limits.proofs.Laws.Writing.{length-limits, length-copied, length-part, spellFields, room-back, field-back, limits-written}
+use Rattle.cursor_limits.proofs.Laws.Writing.{length-limits, length-part, spellFields, room-back, field-back, limits-written}
 use Rattle.cursor_limits.proofs.writing.write_limits.Statement.{statement}
 use Rattle.cursor_limits.proofs.writing.write_limits.Tie as tie
 
@@ -53,7 +54,7 @@ same-length : tie.Need-same-length Inv-loop μ-loop
 same-length c =
     let s = c .before .before .before .before .before .before .before .before .before in
     let n = length-limits (s .args .limits) in
-    ap length (returns c) ∙ length-copied (spellLimits (s .args .limits)) (now (s .args .out)) (omega arith)
+    ap length (returns c) ∙ length-laid (spellLimits (s .args .limits)) (now (s .args .out))
 
 pub write-limits-spec : {M : Type 1} → statement M
 write-limits-spec =

@@ -2,9 +2,9 @@
 use Prim.Native.Nat.{ℕ, _+_, _≤_, _<_}
 use mathlib.Core.Path.{_≡_, sym, ap}
 use native.Mathlib.Omega.{arith}
-use Rattle.cursor_limits.specs.Hex.{digitOf}
-use Rattle.cursor_limits.proofs.hex.capital_digit.Statement.{statement}
-use Rattle.cursor_limits.proofs.hex.capital_digit.Tie as tie
+use Rattle.text.specs.Hex.{digitOf}
+use Rattle.text.proofs.hex.capital_digit.Statement.{statement}
+use Rattle.text.proofs.hex.capital_digit.Tie as tie
 
 -- five numbers in a row are ruled out (`omega` takes six such facts at most)
 past : (n v : ℕ) → n ≤ v → (v ≡ n → ⊥) → (v ≡ n + 1 → ⊥) → (v ≡ n + 2 → ⊥) → (v ≡ n + 3 → ⊥) → (v ≡ n + 4 → ⊥) → n + 5 ≤ v

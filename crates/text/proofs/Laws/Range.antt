@@ -5,7 +5,7 @@ use mathlib.Core.Bool.{true, false}
 use borrow.Author.Tests.{le-leb, lt-leb, leb-true}
 use lib.Dec.{leb}
 use Rattle.wire.proofs.Laws.Bool.{and-false, both}
-use Rattle.cursor_limits.specs.Range.{within}
+use Rattle.text.specs.Range.{within}
 
 module _ (low high b : ℕ) where
   pub inside : low ≤ b → b ≤ high → within low high b ≡ true

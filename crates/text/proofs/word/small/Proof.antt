@@ -1,10 +1,10 @@
 -- Each arm is the byte by its range. Assumes nothing.
 use native.Mathlib.Omega.{arith}
 use borrow.Author.Needs.{needs}
-use Rattle.cursor_limits.specs.Word.{lowered}
-use Rattle.cursor_limits.proofs.Laws.Range.{inside, below, above}
-use Rattle.cursor_limits.proofs.word.small.Statement.{statement}
-use Rattle.cursor_limits.proofs.word.small.Tie as tie
+use Rattle.text.specs.Word.{lowered}
+use Rattle.text.proofs.Laws.Range.{inside, below, above}
+use Rattle.text.proofs.word.small.Statement.{statement}
+use Rattle.text.proofs.word.small.Tie as tie
 
 returns : tie.Need-returns
 unfolding lowered

@@ -8,10 +8,10 @@ use borrow.Author.Tests.{eq-eqb, ne-eqb}
 use denote.Ref.{now}
 use lib.ListN.{length, getD}
 use Rattle.wire.specs.Below.{allBelow}
-use Rattle.cursor_limits.specs.Word.{sameLetter, spells}
+use Rattle.text.specs.Word.{sameLetter, spells}
 use Rattle.wire.proofs.Laws.Below.{one-below, below-next}
-use Rattle.cursor_limits.proofs.word.spelled.Statement.{statement}
-use Rattle.cursor_limits.proofs.word.spelled.Tie as tie
+use Rattle.text.proofs.word.spelled.Statement.{statement}
+use Rattle.text.proofs.word.spelled.Tie as tie
 
 abbrev Inv-loop : tie.InvT-loop
 Inv-loop bytes word k₀ k = (k ≤ length word) × (allBelow k (sameLetter word bytes) ≡ true)

@@ -2,7 +2,7 @@
 ghost use mathlib.Core.Path.{_≡_};
 ghost use Prim.Native.Nat.{_<_};
 ghost use lib.ListN.{length};
-ghost use Rattle.cursor_limits.specs.Hex.{digitOf, digitValue, readDigits, spellDigits};
+ghost use Rattle.text.specs.Hex.{digitOf, digitValue, readDigits, spellDigits};
 
 // What bytes say as hexadecimal digits.
 pub enum Digits {
@@ -68,7 +68,7 @@ fn capital_digit(value: u8) -> u8
 }
 
 // Fills `out` with the digits of `number`, in capitals, as many as it has places; what they can't hold is left out.
-pub(crate) fn write(out: &mut [u8], number: u16)
+pub fn write(out: &mut [u8], number: u16)
     ensures { λ _. ⌜ now (out .exit) ≡ spellDigits (length (now (out .entry))) number ⌝ }
 {
     let mut rest = number;

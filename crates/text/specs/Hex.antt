@@ -4,10 +4,10 @@ use mathlib.Core.List.{List, [], _∷_, _++_}
 use mathlib.Core.Bool.{Bool, cond, _&&_}
 use lib.Dec.{leb, ltb}
 use lib.ListN.{length, getD}
-use Rattle.cursor_limits.specs.declared.hex.Digits.{Digits}
-use Rattle.cursor_limits.specs.declared.hex.Digits.the-variants as digits
+use Rattle.text.specs.declared.hex.Digits.{Digits}
+use Rattle.text.specs.declared.hex.Digits.the-variants as digits
 use Rattle.wire.specs.Below.{allBelow}
-use Rattle.cursor_limits.specs.Range.{within}
+use Rattle.text.specs.Range.{within}
 
 -- the value of the hexadecimal digit b, in either case; 16 for any other byte
 unfoldable pub digitValue : ℕ → ℕ

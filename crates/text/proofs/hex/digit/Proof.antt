@@ -2,10 +2,10 @@
 use mathlib.Core.Path.{sym}
 use native.Mathlib.Omega.{arith}
 use borrow.Author.Needs.{needs}
-use Rattle.cursor_limits.proofs.Laws.Range.{below, above}
-use Rattle.cursor_limits.proofs.Laws.Hex.{decimal-value, upper-value, lower-value, no-value}
-use Rattle.cursor_limits.proofs.hex.digit.Statement.{statement}
-use Rattle.cursor_limits.proofs.hex.digit.Tie as tie
+use Rattle.text.proofs.Laws.Range.{below, above}
+use Rattle.text.proofs.Laws.Hex.{decimal-value, upper-value, lower-value, no-value}
+use Rattle.text.proofs.hex.digit.Statement.{statement}
+use Rattle.text.proofs.hex.digit.Tie as tie
 
 returns : tie.Need-returns
 returns c = let b = c .before .before .args .byte in sym (decimal-value b (omega arith) (omega arith))

@@ -1,6 +1,7 @@
-// The fixed words of the value, given as byte strings in small letters.
+// Fixed words, given as byte strings in small letters.
 ghost use mathlib.Core.Path.{_≡_};
-ghost use Rattle.cursor_limits.specs.Word.{lowered, spells, copied};
+ghost use Rattle.wire.specs.Laid.{laid};
+ghost use Rattle.text.specs.Word.{lowered, spells};
 
 // The byte, a capital letter made small.
 pub fn small(byte: u8) -> u8
@@ -31,7 +32,7 @@ pub fn spelled(bytes: &[u8], word: &[u8]) -> bool
 
 // Copies the word into the first bytes of `out`; where it doesn't fit, nothing changes.
 pub fn copy(out: &mut [u8], word: &[u8])
-    ensures { λ _. ⌜ now (out .exit) ≡ copied (now (word .entry)) (now (out .entry)) ⌝ }
+    ensures { λ _. ⌜ now (out .exit) ≡ laid (now (word .entry)) (now (out .entry)) ⌝ }
 {
     if out.len() < word.len() {
         return;

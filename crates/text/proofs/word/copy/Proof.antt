@@ -9,9 +9,9 @@ use denote.Ref.{now}
 use lib.ListN.{length, getD, take, drop, set, length-set}
 use lib.Seq.{append-snoc, drop-cons, length-take-le, set-at, take-length, take-suc}
 use Rattle.wire.specs.Splice.{splice}
-use Rattle.cursor_limits.specs.Word.{copied}
-use Rattle.cursor_limits.proofs.word.copy.Statement.{statement}
-use Rattle.cursor_limits.proofs.word.copy.Tie as tie
+use Rattle.wire.specs.Laid.{laid}
+use Rattle.text.proofs.word.copy.Statement.{statement}
+use Rattle.text.proofs.word.copy.Tie as tie
 
 abbrev Inv-loop : tie.InvT-loop
 Inv-loop out₀ word k₀ out k = (k ≤ length word) × (length out ≡ length out₀) × (out ≡ take k word ++ drop k out₀)
@@ -26,14 +26,14 @@ step w xs ys k l h e =
     rw (e, drop-cons xs k 0 h, set-at (take k w) (getD xs k 0) (drop (suc k) xs) (getD w k 0) k n, add-one, take-suc w k 0 l)
     (sym (append-snoc (take k w) (getD w k 0) (drop (suc k) xs)))
 
-done : (w xs ys : List ℕ) (k : ℕ) → length w ≤ length xs → k ≡ length w → ys ≡ take k w ++ drop k xs → ys ≡ copied w xs
-unfolding copied splice
+done : (w xs ys : List ℕ) (k : ℕ) → length w ≤ length xs → k ≡ length w → ys ≡ take k w ++ drop k xs → ys ≡ laid w xs
+unfolding laid splice
 done w xs ys k h l e =
     let z : 0 + length w ≡ length w = omega arith in
     simp (le-leb (length w) (length xs) h) (e ∙ rw (l, take-length, z))
 
 returns : tie.Need-returns Inv-loop μ-loop
-unfolding copied
+unfolding laid
 returns c = simp (lt-leb _ _ (c .if1 .taken))
 
 loop-holds : tie.Need-loop-holds Inv-loop μ-loop

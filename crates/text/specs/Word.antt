@@ -1,12 +1,11 @@
--- Whether bytes spell a word, letter case not looked at; and a word copied out. Assumes nothing.
-use Prim.Native.Nat.{ℕ, _+_}
+-- Letters in either case, and whether bytes spell a word. Assumes nothing.
+use Prim.Native.Nat.{ℕ, _+_, _-_}
 use mathlib.Core.List.{List}
 use mathlib.Core.Bool.{Bool, cond, _&&_}
-use lib.Dec.{leb, eqb}
+use lib.Dec.{eqb}
 use lib.ListN.{length, getD}
-use Rattle.wire.specs.Splice.{splice}
 use Rattle.wire.specs.Below.{allBelow}
-use Rattle.cursor_limits.specs.Range.{within}
+use Rattle.text.specs.Range.{within}
 
 -- the byte b, a capital letter made small
 unfoldable pub lowered : ℕ → ℕ
@@ -20,6 +19,6 @@ sameLetter w s k = eqb (lowered (getD s k 0)) (getD w k 0)
 unfoldable pub spells : List ℕ → List ℕ → Bool
 spells w s = eqb (length s) (length w) && allBelow (length w) (sameLetter w s)
 
--- out after the word w was copied into its first places; where it doesn't fit, out as it was
-unfoldable pub copied : List ℕ → List ℕ → List ℕ
-copied w out = cond (leb (length w) (length out)) (splice 0 w out) out
+-- the byte b, a small letter made a capital
+unfoldable pub raised : ℕ → ℕ
+raised b = cond (within 0x61 0x7A b) (b - 0x20) b

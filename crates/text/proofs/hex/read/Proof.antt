@@ -9,11 +9,11 @@ use denote.Ref.{now}
 use lib.Dec.{leb}
 use lib.ListN.{length}
 use Rattle.wire.specs.Below.{allBelow}
-use Rattle.cursor_limits.specs.Hex.{isDigit, number, readDigits}
+use Rattle.text.specs.Hex.{isDigit, number, readDigits}
 use Rattle.wire.proofs.Laws.Below.{one-below, below-next}
-use Rattle.cursor_limits.proofs.Laws.Hex.{number-more, more-small, four-small}
-use Rattle.cursor_limits.proofs.hex.read.Statement.{statement}
-use Rattle.cursor_limits.proofs.hex.read.Tie as tie
+use Rattle.text.proofs.Laws.Hex.{number-more, more-small, four-small}
+use Rattle.text.proofs.hex.read.Statement.{statement}
+use Rattle.text.proofs.hex.read.Tie as tie
 
 abbrev Inv-loop : tie.InvT-loop
 Inv-loop bytes number₀ k₀ v k =

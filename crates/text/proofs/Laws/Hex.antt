@@ -8,9 +8,9 @@ use native.Mathlib.Numerals.{add-one}
 use lib.ListN.{length, getD, drop, set, length-append}
 use lib.Pow.{pow-add}
 use lib.Seq.{append-snoc, drop-cons, drop-set-lt, getD-set-same, lt-length-set}
-use Rattle.cursor_limits.specs.Range.{within}
-use Rattle.cursor_limits.specs.Hex.{digitValue, number, digitOf, spellDigits}
-use Rattle.cursor_limits.proofs.Laws.Range.{inside, above}
+use Rattle.text.specs.Range.{within}
+use Rattle.text.specs.Hex.{digitValue, number, digitOf, spellDigits}
+use Rattle.text.proofs.Laws.Range.{inside, above}
 
 -- the value of a digit by its range
 module _ (b : ℕ) where

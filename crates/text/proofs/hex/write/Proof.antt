@@ -6,10 +6,10 @@ use native.Mathlib.Omega.{arith}
 use denote.Ref.{now}
 use lib.ListN.{length, drop, length-set}
 use lib.Seq.{drop-length}
-use Rattle.cursor_limits.specs.Hex.{spellDigits}
-use Rattle.cursor_limits.proofs.Laws.Hex.{write-last}
-use Rattle.cursor_limits.proofs.hex.write.Statement.{statement}
-use Rattle.cursor_limits.proofs.hex.write.Tie as tie
+use Rattle.text.specs.Hex.{spellDigits}
+use Rattle.text.proofs.Laws.Hex.{write-last}
+use Rattle.text.proofs.hex.write.Statement.{statement}
+use Rattle.text.proofs.hex.write.Tie as tie
 
 abbrev Inv-loop : tie.InvT-loop
 Inv-loop out₀ number rest₀ k₀ out rest k =

@@ -1,0 +1,5 @@
+pub mod Abnf
+pub mod Examples
+pub mod Hex
+pub mod Range
+pub mod Word
