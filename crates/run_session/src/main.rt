@@ -1,10 +1,11 @@
 // Steps a session in every combination of: its state, an event number from 0 to 11, whether a Source ID is kept, which one the event carries
-// (none, the kept one, another), the kept options (without and with the PIN option) and the options that the event brings. A line each:
+// (none, the kept one, another), the kept options (without and with the PIN option) and the options that the event brings. Each step is
+// made in place, on a session record that is lent. A line each:
 //     STATE EVENT KEPT CARRIED OPTIONS BROUGHT: STATUS CHECK STATE OPTIONS FIRST-BYTE-OF-KEPT-ID-OR-0
 
 use libc::STDOUT_FILENO;
 use message_rules::accessors::SourceId;
-use session_step::step;
+use session_step::in_place;
 use session_step::step::Stepped;
 use session_table::record::Session;
 use session_table::record::State;
@@ -91,7 +92,7 @@ fn line(state: State, event: u8, kept: bool, which: u8, options: u8, brought: u8
     print_number(options as u64);
     print_number(brought as u64);
     print(b":");
-    print_stepped(step::step(session, event, carried(which), brought));
+    print_stepped(in_place::lend_and_step(session, event, carried(which), brought));
     print(b"\n");
 }
 
