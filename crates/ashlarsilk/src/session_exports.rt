@@ -5,7 +5,7 @@ ghost use Rattle.session_table.specs.Record.{freshSession};
 ghost use Rattle.wire.specs.Laid.{laid};
 ghost use Rattle.session_layout.specs.SessionLayout.{sessionBytes};
 ghost use Rattle.host_answers.specs.Fresh.{freshAnswer};
-ghost use Rattle.session_calls.specs.SessionCalls.{after, sessionStep, sessionMessage};
+ghost use Rattle.session_calls.specs.SessionCalls.{stepResult, sessionStep, sessionMessage};
 use host_answers::Step;
 
 // Writes the session of a new connection. Answers 0, or 10 where the record has fewer than 19 bytes, which then stay as they are.
@@ -28,7 +28,7 @@ pub extern "C" fn ashlarsilk_session_step(
     source: &[u8],
     options: u8,
 ) -> Step
-    ensures { λ r. ⌜ after r (now («record» .exit)) ≡ sessionStep (now («record» .entry)) event (now (source .entry)) options ⌝ }
+    ensures { λ r. ⌜ stepResult r (now («record» .exit)) ≡ sessionStep (now («record» .entry)) event (now (source .entry)) options ⌝ }
 {
     session_calls::on_event(record, event, source, options)
 }
@@ -37,7 +37,7 @@ pub extern "C" fn ashlarsilk_session_step(
 // fewer than 19 bytes. The record is left as by a step with an event.
 #[no_mangle]
 pub extern "C" fn ashlarsilk_session_message(record: &mut [u8], bytes: &[u8]) -> Step
-    ensures { λ r. ⌜ after r (now («record» .exit)) ≡ sessionMessage (now («record» .entry)) (now (bytes .entry)) ⌝ }
+    ensures { λ r. ⌜ stepResult r (now («record» .exit)) ≡ sessionMessage (now («record» .entry)) (now (bytes .entry)) ⌝ }
 {
     session_calls::on_message(record, bytes)
 }

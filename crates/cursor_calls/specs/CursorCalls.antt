@@ -65,7 +65,7 @@ storeLeft (store.Accepted q p) ps qs image marks = afterStore accepted (laid (po
 storeLeft (store.Refused s place) ps qs image marks = afterStore (refused s place) ps qs image marks
 
 -- with the image and the marks as the call leaves them
-abbrev pub allLeft : storing.After → List ℕ → List ℕ → Stored
+abbrev pub allLeft : storing.StoreResult → List ℕ → List ℕ → Stored
 allLeft a ps qs = storeLeft (a .answer) ps qs (a .image) (a .marks)
 
 unfoldable pub cursorStore : List ℕ → List ℕ → List ℕ → List ℕ → List ℕ → Stored

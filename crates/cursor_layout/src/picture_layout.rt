@@ -16,13 +16,13 @@ ghost use Rattle.wire.specs.Splice.{splice};
 ghost use Rattle.wire.specs.Laid.{laid};
 ghost use Rattle.cursor_layout.specs.PictureLayout.{startBytes, pictureBytes, pictureOf};
 use cursor_fragment::start::Start;
+use cursor_picture::Picture;
 use little_endian::put_u8;
 use little_endian::put_u16;
 use little_endian::put_u32;
 use little_endian::u8_at;
 use little_endian::u16_at;
 use little_endian::u32_at;
-use cursor_picture::Picture;
 
 pub const LENGTH: usize = 15;
 

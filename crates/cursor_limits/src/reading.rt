@@ -2,12 +2,12 @@
 ghost use mathlib.Core.Path.{_≡_};
 ghost use lib.ListN.{length};
 ghost use Rattle.cursor_limits.specs.Reading.{notGrammar, readField, readLimits, readValue};
-use text::hex;
-use text::hex::Digits;
 use crate::value::Answer;
 use crate::value::Limits;
 use crate::value::Value;
 use crate::value::Xor;
+use text::hex;
+use text::hex::Digits;
 use text::word;
 use wire::status::Status;
 

@@ -5,11 +5,11 @@ ghost use Prim.Native.Nat.{_≤_};
 ghost use lib.ListN.{length};
 ghost use Rattle.wire.specs.Laid.{laid};
 ghost use Rattle.cursor_limits.specs.Writing.{spellXor, spellField, spellLimits, spelling, writeAnswer};
-use text::hex;
 use crate::value::Limits;
 use crate::value::Value;
 use crate::value::Written;
 use crate::value::Xor;
+use text::hex;
 use text::word;
 use wire::status::Status;
 

@@ -13,24 +13,24 @@ use Rattle.cursor_store.specs.Judging.{judging}
 use Rattle.cursor_store.specs.Storing.{pictureAfter, imageAfter, marksAfter, storeStatus}
 
 -- an answer, with what the lent picture and marks then hold
-pub record Left : Type 0 where
+pub record AssembleResult : Type 0 where
   pub answer : Assembled
   pub image : List ℕ
   pub marks : List ℕ
 
-abbrev pub left : Assembled → List ℕ → List ℕ → Left
-left r image marks = record { answer = r; image = image; marks = marks }
+abbrev pub assembleResult : Assembled → List ℕ → List ℕ → AssembleResult
+assembleResult r image marks = record { answer = r; image = image; marks = marks }
 
 -- what a call does whose checks give this status: all of it where that is Accepted, else nothing
-unfoldable pub assembledAs : Status → Picture → Fragment → List ℕ → List ℕ → List ℕ → Left
+unfoldable pub assembledAs : Status → Picture → Fragment → List ℕ → List ℕ → List ℕ → AssembleResult
 assembledAs s q f ds image marks =
     cond (accepted s)
-    (left (record { status = s; picture = pictureAfter q f }) (imageAfter f ds image) (marksAfter q f ds marks))
-    (left (record { status = s; picture = q }) image marks)
+    (assembleResult (record { status = s; picture = pictureAfter q f }) (imageAfter f ds image) (marksAfter q f ds marks))
+    (assembleResult (record { status = s; picture = q }) image marks)
 
 -- a fragment judged by itself
-unfoldable pub fragmentAssembled : Picture → Fragment → List ℕ → List ℕ → List ℕ → Left
+unfoldable pub fragmentAssembled : Picture → Fragment → List ℕ → List ℕ → List ℕ → AssembleResult
 fragmentAssembled q f ds image marks = assembledAs (firstOf (judging q f ds image marks)) q f ds image marks
 
-unfoldable pub assembled : Picture → List ℕ → List ℕ → List ℕ → Left
+unfoldable pub assembled : Picture → List ℕ → List ℕ → List ℕ → AssembleResult
 assembled q packet image marks = assembledAs (storeStatus q packet image marks) q (fragmentOf packet) (dataOf packet) image marks

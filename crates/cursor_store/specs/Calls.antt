@@ -13,7 +13,7 @@ use Rattle.cursor_picture.specs.declared.Picture.{Picture}
 use Rattle.cursor_store.specs.declared.storing.StoreAnswer.{StoreAnswer}
 use Rattle.cursor_store.specs.declared.storing.StoreAnswer.the-variants.{Accepted, Refused}
 use Rattle.cursor_store.specs.Judging.{ofOpened}
-use Rattle.cursor_store.specs.Storing.{After, stored}
+use Rattle.cursor_store.specs.Storing.{StoreResult, stored}
 
 -- what the host keeps between the calls: both records, the picture and the marks
 pub record State : Type 0 where
@@ -32,7 +32,7 @@ isAccepted (Accepted p q) = true
 isAccepted (Refused s k) = false
 
 -- the answer to a packet, and what picture and marks then hold
-abbrev pub answered : State → List ℕ → After
+abbrev pub answered : State → List ℕ → StoreResult
 answered s packet = stored (s .pointer) (s .picture) packet (s .image) (s .marks)
 
 -- the host keeps the records that an acceptance returns, and after a refusal those that it has

@@ -1,4 +1,4 @@
--- Small examples of the definitions of this crate, `pointer` and `picture`, P9 and P10 of 01, "Proved table of small examples", among them.
+-- Small examples of the definitions of this crate, `cursor_pointer` and `cursor_picture`, P9 and P10 of 01, "Proved table of small examples", among them.
 -- Those that end in `refl` are computed here; the proofs of `PremisesMet` and `SameFromBoth` stand in proofs/Laws/Examples.antt.
 use Prim.Native.Nat.{ℕ}
 use mathlib.Core.Path.{_≡_, refl}

@@ -57,24 +57,24 @@ unfoldable pub pointerAfter : Pointer → Fragment → Pointer
 pointerAfter p f = cond (f .starts) (movedTo p (f .sequence) (f .x) (f .y)) p
 
 -- an answer, with what the lent picture and marks then hold
-pub record After : Type 0 where
+pub record StoreResult : Type 0 where
   pub answer : StoreAnswer
   pub image : List ℕ
   pub marks : List ℕ
 
-abbrev pub after : StoreAnswer → List ℕ → List ℕ → After
-after r image marks = record { answer = r; image = image; marks = marks }
+abbrev pub storeResult : StoreAnswer → List ℕ → List ℕ → StoreResult
+storeResult r image marks = record { answer = r; image = image; marks = marks }
 
 -- what a call does whose checks give this status: all of it where that is Accepted, else nothing
-unfoldable pub outcome : Status → Pointer → Picture → Fragment → List ℕ → List ℕ → List ℕ → After
+unfoldable pub outcome : Status → Pointer → Picture → Fragment → List ℕ → List ℕ → List ℕ → StoreResult
 outcome s p q f ds image marks =
     cond (accepted s)
-    (after (Accepted (pictureAfter q f) (pointerAfter p f)) (imageAfter f ds image) (marksAfter q f ds marks))
-    (after (Refused s 0) image marks)
+    (storeResult (Accepted (pictureAfter q f) (pointerAfter p f)) (imageAfter f ds image) (marksAfter q f ds marks))
+    (storeResult (Refused s 0) image marks)
 
 -- a fragment judged by itself
-unfoldable pub taken : Pointer → Picture → Fragment → List ℕ → List ℕ → List ℕ → After
-taken p q f ds image marks = outcome (firstOf (judging q f ds image marks)) p q f ds image marks
+unfoldable pub fragmentStored : Pointer → Picture → Fragment → List ℕ → List ℕ → List ℕ → StoreResult
+fragmentStored p q f ds image marks = outcome (firstOf (judging q f ds image marks)) p q f ds image marks
 
 -- The call: "17 where a picture is lent; fewer than 15 bytes 1; RTP 3; type 4; PacketMsgSize below its header .. 2; too few bytes 1; too
 -- many 2; 9; 10; then the rules below".
@@ -86,11 +86,11 @@ storeChecks q packet image marks =
 unfoldable pub storeStatus : Picture → List ℕ → List ℕ → List ℕ → Status
 storeStatus q packet image marks = firstOf (storeChecks q packet image marks)
 
-unfoldable pub stored : Pointer → Picture → List ℕ → List ℕ → List ℕ → After
+unfoldable pub stored : Pointer → Picture → List ℕ → List ℕ → List ℕ → StoreResult
 stored p q packet image marks = outcome (storeStatus q packet image marks) p q (fragmentOf packet) (dataOf packet) image marks
 
 -- A continuation of the opened id does the same whatever its sequence number. The proof stands in proofs/Laws/Storing.antt.
 unfoldable pub OldContinuationStored : Type 0
 OldContinuationStored =
     (n : ℕ) (p : Pointer) (q : Picture) (f : Fragment) (ds image marks : List ℕ) → ofOpened q f ≡ true → f .starts ≡ false
-    → taken p q (withSequence n f) ds image marks ≡ taken p q f ds image marks
+    → fragmentStored p q (withSequence n f) ds image marks ≡ fragmentStored p q f ds image marks

@@ -4,8 +4,8 @@ ghost use Prim.Native.Nat.{_+_, _≤_};
 ghost use lib.ListN.{length, replicate};
 ghost use Rattle.wire.specs.Splice.{splice};
 ghost use Rattle.cursor_fragment.specs.Fragment.{fragmentOf};
-ghost use Rattle.cursor_store.specs.Storing.{after, openedBy, openedFor, clearedFor, withStart, pointerAfter, stored};
-ghost use Rattle.cursor_store.specs.Assembling.{left, fragmentAssembled, assembled};
+ghost use Rattle.cursor_store.specs.Storing.{storeResult, openedBy, openedFor, clearedFor, withStart, pointerAfter, stored};
+ghost use Rattle.cursor_store.specs.Assembling.{assembleResult, fragmentAssembled, assembled};
 use super::judging;
 use cursor_fragment::Fragment;
 use cursor_fragment::start;
@@ -98,7 +98,7 @@ fn take(
     marks: &mut [u8],
 ) -> Assembled
     requires { ⌜ fragment .offset + length (now «data») ≤ fragment .total ⌝ }
-    ensures { λ r. ⌜ left r (now (image .exit)) (now (marks .exit)) ≡ fragmentAssembled picture fragment (now («data» .entry)) (now (image .entry)) (now (marks .entry)) ⌝ }
+    ensures { λ r. ⌜ assembleResult r (now (image .exit)) (now (marks .exit)) ≡ fragmentAssembled picture fragment (now («data» .entry)) (now (image .entry)) (now (marks .entry)) ⌝ }
 {
     let judged = judging::judge(picture, fragment, data, image, marks);
     if status::number(judged) != 0 {
@@ -118,7 +118,7 @@ fn take(
 // The call for starts and continuations as far as the picture goes: the first refusal in 01's order, which changes nothing, or Accepted, with
 // the record of the picture as the fragment leaves it.
 pub fn assemble(picture: Picture, packet: &[u8], image: &mut [u8], marks: &mut [u8]) -> Assembled
-    ensures { λ r. ⌜ left r (now (image .exit)) (now (marks .exit)) ≡ assembled picture (now (packet .entry)) (now (image .entry)) (now (marks .entry)) ⌝ }
+    ensures { λ r. ⌜ assembleResult r (now (image .exit)) (now (marks .exit)) ≡ assembled picture (now (packet .entry)) (now (image .entry)) (now (marks .entry)) ⌝ }
 {
     if !cursor_picture::is_held(picture, image.len(), marks.len()) {
         return Assembled {
@@ -159,7 +159,7 @@ pub fn store(
     image: &mut [u8],
     marks: &mut [u8],
 ) -> StoreAnswer
-    ensures { λ r. ⌜ after r (now (image .exit)) (now (marks .exit)) ≡ stored pointer picture (now (packet .entry)) (now (image .entry)) (now (marks .entry)) ⌝ }
+    ensures { λ r. ⌜ storeResult r (now (image .exit)) (now (marks .exit)) ≡ stored pointer picture (now (packet .entry)) (now (image .entry)) (now (marks .entry)) ⌝ }
 {
     let assembled = assemble(picture, packet, image, marks);
     let status = assembled.status;

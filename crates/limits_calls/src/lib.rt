@@ -1,11 +1,11 @@
 // The calls of the cursor limits value over lent records. Crate ashlarsilk exports each, and says there in words what a host gets.
 ghost use mathlib.Core.Path.{_≡_};
 ghost use Rattle.limits_calls.specs.LimitsCalls.{readAnswer, readRecord, limitsWritten, limitsOutput};
+use cursor_limits::value;
 use host_answers::Answer;
 use host_answers::Written;
 use host_answers::accept;
 use host_answers::refuse;
-use cursor_limits::value;
 use wire::status;
 use wire::status::Status;
 

@@ -8,12 +8,12 @@ ghost use Rattle.message_rules.specs.Record.{emptyOf};
 ghost use Rattle.message_reader.specs.Reading.{commandIn, tlvsFrom, readMessage};
 ghost use Rattle.message_reader.specs.Checking.{verdictOf};
 ghost use Rattle.message_calls.specs.Locating.{none, Located, fieldFrom, messageFrom};
-use message_rules::record::Field;
-use message_rules::record::Message;
-use message_rules::rules;
 use message_reader::Header;
 use message_reader::Tlv;
 use message_reader::Verdict;
+use message_rules::record::Field;
+use message_rules::record::Message;
+use message_rules::rules;
 use wire::status::Status;
 
 // In a value's number the place has the low four bytes and the length the high ones: the length times this is added to the place.

@@ -87,10 +87,10 @@ AcceptedExactly =
 -- The value f of type t, in a message of command c, lies after the header and before `end`, with its TLV's Type and Length right before it;
 -- the type belongs to the command, and the length is one of its type.
 pub record Placed (s : List ℕ) (c t : ℕ) (f : Field) (end : ℕ) : Type 0 where
-  pub after : 7 ≤ f .at
+  pub past-header : 7 ≤ f .at
   pub within : f .at + f .len ≤ end
   pub type : typeAt s (f .at - 3) ≡ t
-  pub length : lengthAt s (f .at - 3) ≡ f .len
+  pub length-declared : lengthAt s (f .at - 3) ≡ f .len
   pub expected : roleOf c t ≡ foreign → ⊥
   pub fitting : lengthOk t (f .len) ≡ true
 

@@ -16,6 +16,7 @@ portOf s m = cond (m .«rtsp_port» .present) (number 2 s (m .«rtsp_port» .at)
 unfoldable pub optionsOf : List ℕ → Message → ℕ
 optionsOf s m = cond (m .«security_options» .present) (number 1 s (m .«security_options» .at)) 0
 
+-- no Source ID
 abbrev pub noSource : SourceId
 noSource = record { present = false; bytes = replicate 16 0 }
 

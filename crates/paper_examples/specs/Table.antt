@@ -17,10 +17,10 @@ use Rattle.message_reader.specs.declared.Answer.the-variants as read
 use Rattle.message_rules.specs.Rules.{rolesOf, roleOf, lengthsOf, lengthOk, knownCommand}
 use Rattle.message_rules.specs.Record.{fieldOf, withField, emptyOf}
 use Rattle.message_reader.specs.Reading.{headerOf, hasNeeded, isComplete, tlvAt, lastOf, tlvsFrom, readMessage}
-use Rattle.message_rules.specs.Accessors.{portOf}
+use Rattle.message_rules.specs.Accessors.{portOf, noSource}
 use Rattle.session_table.specs.declared.record.State.{State}
 use Rattle.session_table.specs.declared.record.State.the-variants as state
-use Rattle.session_table.specs.Record.{noSource, freshSession}
+use Rattle.session_table.specs.Record.{freshSession}
 use Rattle.session_table.specs.Source.{carried, otherSource}
 use Rattle.session_table.specs.Table.{isEvent}
 use Rattle.session_step.specs.declared.step.Stepped.{Stepped}

@@ -1,14 +1,14 @@
-// Plays a recorded stream of calls at `pointer`, `cursor` and `picture` and prints what they answer. The stream is a file of frames of 40
+// Plays a recorded stream of calls at `cursor_pointer`, `cursor_store` and `cursor_picture` and prints what they answer. The stream is a file of frames of 40
 // bytes: the call (1 position, 2 store, any other the completeness question), the packet's length, the packet, and bytes that are not looked
 // at. The picture and its marks have 40 places. A line for each 16 calls: their numbers (for the completeness question 100 no, 101 yes), then
 // a sum over both records, the picture and the marks.
 ghost use Prim.Native.Nat.{_<_};
-use cursor_store::storing::StoreAnswer;
-use libc::STDOUT_FILENO;
 use cursor_picture::Picture;
 use cursor_picture::completeness::CompleteAnswer;
 use cursor_pointer::Pointer;
 use cursor_pointer::PointerAnswer;
+use cursor_store::storing::StoreAnswer;
+use libc::STDOUT_FILENO;
 use wire::number;
 use wire::signed;
 use wire::status;

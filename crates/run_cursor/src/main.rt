@@ -1,13 +1,13 @@
-// Runs the calls of `pointer`, `cursor` and `picture` and prints a line a call: the call, the paper's number of its status, and what then
+// Runs the calls of `cursor_pointer`, `cursor_store` and `cursor_picture` and prints a line a call: the call, the paper's number of its status, and what then
 // stands in the records, in five bytes of the picture and in the marks beside them. The packets are P9 and P10 of 01, those of 003 section 4,
 // and orders, repeats and refusals of a small picture.
-use cursor_store::storing::StoreAnswer;
 use cursor_fragment::start::Start;
-use libc::STDOUT_FILENO;
 use cursor_picture::Picture;
 use cursor_picture::completeness::CompleteAnswer;
 use cursor_pointer::Pointer;
 use cursor_pointer::PointerAnswer;
+use cursor_store::storing::StoreAnswer;
+use libc::STDOUT_FILENO;
 use scan::bytes;
 use wire::number;
 use wire::signed;

@@ -1,10 +1,10 @@
 // Writes each of the 65,536 numbers of each field and reads it back; then reads spellings, good and bad, and shows what they mean.
 ghost use Prim.Native.Nat.{_≤_};
-use libc::STDOUT_FILENO;
 use cursor_limits::value::Answer;
 use cursor_limits::value::Limits;
 use cursor_limits::value::Value;
 use cursor_limits::value::Xor;
+use libc::STDOUT_FILENO;
 
 // The fields of a value.
 enum Field {

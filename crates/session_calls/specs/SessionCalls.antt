@@ -18,12 +18,12 @@ use Rattle.session_layout.specs.SessionLayout.{sourceAt, stateNumber, sessionBy
 use Rattle.host_answers.specs.declared.Step.{Step}
 
 -- an answer, with what the lent record then holds
-pub record After : Type 0 where
+pub record StepResult : Type 0 where
   pub answer : Step
   pub bytes : List ℕ
 
-abbrev pub after : Step → List ℕ → After
-after r xs = record { answer = r; bytes = xs }
+abbrev pub stepResult : Step → List ℕ → StepResult
+stepResult r xs = record { answer = r; bytes = xs }
 
 -- a lent slice is too short: 10, and nothing changes
 abbrev pub shortStep : Step
@@ -40,36 +40,36 @@ bytesLeft before s xs =
     cond (eqb (numberOf (s .answer .status)) 0) (laid (sessionBytes (s .session)) xs)
     (cond (eqb (stateNumber (s .session .state)) before) xs (written 1 (stateNumber (s .session .state)) 0 xs))
 
-abbrev pub left : ℕ → Stepped → List ℕ → After
-left before s xs = after (answerOf (s .answer)) (bytesLeft before s xs)
+abbrev pub resultOf : ℕ → Stepped → List ℕ → StepResult
+resultOf before s xs = stepResult (answerOf (s .answer)) (bytesLeft before s xs)
 
 -- on the session in the record
-abbrev pub leftBy : Stepped → List ℕ → After
-leftBy s xs = left (stateNumber (sessionOf xs .state)) s xs
+abbrev pub resultOn : Stepped → List ℕ → StepResult
+resultOn s xs = resultOf (stateNumber (sessionOf xs .state)) s xs
 
 -- a lent Source ID: no bytes where there is none, else its first 16
 unfoldable pub sourceIn : List ℕ → SourceId
 sourceIn xs = sourceAt (not (eqb (length xs) 0)) 0 xs
 
 -- the record has its 19 bytes, and the lent Source ID none or its 16
-unfoldable pub taken : ℕ → List ℕ → Bool
-taken lent source = leb 19 lent && (eqb (length source) 0 || leb 16 (length source))
+unfoldable pub lentEnough : ℕ → List ℕ → Bool
+lentEnough lent source = leb 19 lent && (eqb (length source) 0 || leb 16 (length source))
 
 -- a step with an event, on the session in the record xs
-unfoldable pub sessionStep : List ℕ → ℕ → List ℕ → ℕ → After
+unfoldable pub sessionStep : List ℕ → ℕ → List ℕ → ℕ → StepResult
 sessionStep xs event source options =
-    cond (taken (length xs) source) (leftBy (stepOf (sessionOf xs) event (sourceIn source) options) xs) (after shortStep xs)
+    cond (lentEnough (length xs) source) (resultOn (stepOf (sessionOf xs) event (sourceIn source) options) xs) (stepResult shortStep xs)
 
 -- a step with the message in `bytes`
-unfoldable pub sessionMessage : List ℕ → List ℕ → After
-sessionMessage xs bytes = cond (leb 19 (length xs)) (leftBy (onMessage (sessionOf xs) bytes) xs) (after shortStep xs)
+unfoldable pub sessionMessage : List ℕ → List ℕ → StepResult
+sessionMessage xs bytes = cond (leb 19 (length xs)) (resultOn (onMessage (sessionOf xs) bytes) xs) (stepResult shortStep xs)
 
 -- A refusal other than 14 changes no byte of the record ("Every refusal changes nothing, except 14 in an open session, which closes it").
 -- The proofs stand in proofs/Laws/SessionCalls.antt.
 
 -- what holds of an answer to a call on the record xs, and of what the record then holds
-unfoldable pub KeptIfRefused : List ℕ → After → Type 0
-KeptIfRefused xs r = (r .answer .status ≡ 0 → ⊥) → (r .answer .status ≡ 14 → ⊥) → r ≡ after (r .answer) xs
+unfoldable pub KeptIfRefused : List ℕ → StepResult → Type 0
+KeptIfRefused xs r = (r .answer .status ≡ 0 → ⊥) → (r .answer .status ≡ 14 → ⊥) → r ≡ stepResult (r .answer) xs
 
 unfoldable pub StepRefusalKeeps : Type 0
 StepRefusalKeeps = (xs : List ℕ) (event : ℕ) (source : List ℕ) (options : ℕ) → KeptIfRefused xs (sessionStep xs event source options)

@@ -5,7 +5,7 @@ ghost use Rattle.session_table.specs.Record.{freshSession};
 ghost use Rattle.wire.specs.Laid.{laid};
 ghost use Rattle.session_layout.specs.SessionLayout.{sessionBytes};
 ghost use Rattle.host_answers.specs.Fresh.{freshAnswer};
-ghost use Rattle.session_calls.specs.SessionCalls.{after, shortStep, answerOf, left, sourceIn, taken, sessionStep, sessionMessage};
+ghost use Rattle.session_calls.specs.SessionCalls.{stepResult, shortStep, answerOf, resultOf, sourceIn, lentEnough, sessionStep, sessionMessage};
 use host_answers::Step;
 use message_rules::accessors::SourceId;
 use session_step::message_step;
@@ -52,7 +52,7 @@ fn answered(answer: Answer) -> Step
 // Leaves what the step makes of the session in the record, and answers. Of a refused step that is the state alone, and only if it is
 // another than before: 14 closes an open session, and every other refusal changes nothing. `before` is the state's number before.
 fn leave(record: &mut [u8], before: u8, stepped: Stepped) -> Step
-    ensures { λ r. ⌜ after r (now («record» .exit)) ≡ left before stepped (now («record» .entry)) ⌝ }
+    ensures { λ r. ⌜ stepResult r (now («record» .exit)) ≡ resultOf before stepped (now («record» .entry)) ⌝ }
 {
     let answer = stepped.answer;
     let session = stepped.session;
@@ -78,8 +78,8 @@ fn source_of(bytes: &[u8]) -> SourceId
 }
 
 // Whether a record of so many bytes has all of its own, and `source` is a Source ID or none.
-fn are_taken(lent: usize, source: &[u8]) -> bool
-    ensures { λ r. ⌜ r ≡ taken lent (now (source .entry)) ⌝ }
+fn lent_enough(lent: usize, source: &[u8]) -> bool
+    ensures { λ r. ⌜ r ≡ lentEnough lent (now (source .entry)) ⌝ }
 {
     if lent < session_layout::LENGTH {
         return false;
@@ -93,9 +93,9 @@ fn are_taken(lent: usize, source: &[u8]) -> bool
 // A step with an event: 1 to 6 the commands of messages, 7 handshake done, 8 PIN right, 9 PIN wrong, 10 connection lost. `source` has no
 // bytes where the event carries no Source ID, else the Source ID in its first 16.
 pub fn on_event(record: &mut [u8], event: u8, source: &[u8], options: u8) -> Step
-    ensures { λ r. ⌜ after r (now («record» .exit)) ≡ sessionStep (now («record» .entry)) event (now (source .entry)) options ⌝ }
+    ensures { λ r. ⌜ stepResult r (now («record» .exit)) ≡ sessionStep (now («record» .entry)) event (now (source .entry)) options ⌝ }
 {
-    if !are_taken(record.len(), source) {
+    if !lent_enough(record.len(), source) {
         return short();
     }
     let session = session_layout::read(record);
@@ -106,7 +106,7 @@ pub fn on_event(record: &mut [u8], event: u8, source: &[u8], options: u8) -> Ste
 
 // A step with a message, which is all of the lent bytes.
 pub fn on_message(record: &mut [u8], bytes: &[u8]) -> Step
-    ensures { λ r. ⌜ after r (now («record» .exit)) ≡ sessionMessage (now («record» .entry)) (now (bytes .entry)) ⌝ }
+    ensures { λ r. ⌜ stepResult r (now («record» .exit)) ≡ sessionMessage (now («record» .entry)) (now (bytes .entry)) ⌝ }
 {
     if record.len() < session_layout::LENGTH {
         return short();

@@ -7,7 +7,8 @@ use Rattle.wire.specs.Below.{allBelow}
 use Rattle.wire.specs.declared.status.Status.the-variants as status
 use Rattle.message_rules.specs.declared.accessors.SourceId.{SourceId}
 use Rattle.session_table.specs.declared.record.State.the-variants as state
-use Rattle.session_table.specs.Record.{noSource, freshSession}
+use Rattle.message_rules.specs.Accessors.{noSource}
+use Rattle.session_table.specs.Record.{freshSession}
 use Rattle.session_table.specs.Source.{carried, otherSource, sameBytes}
 use Rattle.session_table.specs.Table.{isEvent}
 use Rattle.session_step.specs.Step.{wantsPin, pinOrReady, optionsFrom, sourceAfter, accepted, refused, steppedTo, stepOf}

@@ -6,7 +6,7 @@ use lib.Dec.{eqb}
 use Rattle.wire.specs.Status.{numberOf}
 use Rattle.message_rules.specs.declared.accessors.SourceId.{SourceId}
 use Rattle.session_table.specs.declared.record.Session.{Session}
-use Rattle.session_table.specs.Record.{noSource}
+use Rattle.message_rules.specs.Accessors.{noSource}
 use Rattle.session_table.specs.Source.{carried}
 use Rattle.session_step.specs.declared.step.Stepped.{Stepped}
 use Rattle.session_step.specs.Step.{stepOf}

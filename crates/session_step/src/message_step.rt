@@ -3,8 +3,8 @@ ghost use mathlib.Core.Path.{_≡_};
 ghost use Rattle.session_step.specs.Message.{unread, onMessage};
 use crate::step;
 use crate::step::Stepped;
-use message_rules::accessors;
 use message_reader::Answer;
+use message_rules::accessors;
 use session_table::record::Session;
 use wire::status::Status;
 

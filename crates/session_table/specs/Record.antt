@@ -1,13 +1,9 @@
 -- The session record (01, "Sink session"). Assumes nothing.
 use mathlib.Core.Bool.{Bool, true, false}
-use lib.ListN.{replicate}
-use Rattle.message_rules.specs.declared.accessors.SourceId.{SourceId}
+use Rattle.message_rules.specs.Accessors.{noSource}
 use Rattle.session_table.specs.declared.record.State.{State}
 use Rattle.session_table.specs.declared.record.State.the-variants as state
 use Rattle.session_table.specs.declared.record.Session.{Session}
-
-abbrev pub noSource : SourceId
-noSource = record { present = false; bytes = replicate 16 0 }
 
 -- the session of a new connection
 abbrev pub freshSession : Session

@@ -2,9 +2,9 @@
 use crate::print::byte;
 use crate::print::number;
 use crate::print::text;
+use message_reader::Answer;
 use message_rules::accessors;
 use message_rules::record::Message;
-use message_reader::Answer;
 use message_writer::Written;
 use message_writer::write;
 use wire::status;

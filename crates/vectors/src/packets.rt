@@ -2,11 +2,11 @@
 // no image: here the sequence numbers are 0, 1 and 2, and the halves of the image are 65 and 66.
 use crate::print::number;
 use crate::print::text;
-use cursor_store::storing::StoreAnswer;
 use cursor_picture::Picture;
 use cursor_picture::completeness::CompleteAnswer;
 use cursor_pointer::Pointer;
 use cursor_pointer::PointerAnswer;
+use cursor_store::storing::StoreAnswer;
 use scan::bytes;
 use wire::signed;
 use wire::status;

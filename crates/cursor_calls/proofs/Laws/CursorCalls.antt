@@ -44,12 +44,12 @@ module _ (ps qs packet image marks : List ℕ) where
   -- the call answered `a`, which is of the form `b`, and left these bytes and marks
   pub store-answered
       : {a : StoreAnswer} (b : StoreAnswer) (bytes filled : List ℕ) → recordsWhole (length ps) (length qs) ≡ true
-      → storing.after a bytes filled ≡ stored (pointerOf ps) (pictureOf qs) packet image marks → a ≡ b
+      → storing.storeResult a bytes filled ≡ stored (pointerOf ps) (pictureOf qs) packet image marks → a ≡ b
       → cursorStore ps qs packet image marks ≡ storeLeft b ps qs bytes filled
   unfolding cursorStore
   store-answered b bytes filled h e f =
       simp h
-      (ap (λ (x : storing.After). allLeft x ps qs) (sym e) ∙ ap (λ (x : StoreAnswer). storeLeft x ps qs bytes filled) f)
+      (ap (λ (x : storing.StoreResult). allLeft x ps qs) (sym e) ∙ ap (λ (x : StoreAnswer). storeLeft x ps qs bytes filled) f)
 
 -- A refusal keeps everything: by the outcomes.
 
@@ -70,13 +70,13 @@ module _ (ps qs image marks : List ℕ) where
   keeps-store : Stored → Type 0
   keeps-store r = (r .answer .status ≡ 0 → ⊥) → r ≡ afterStore (r .answer) ps qs image marks
 
-  keeps-left : storing.After → Type 0
+  keeps-left : storing.StoreResult → Type 0
   keeps-left a = keeps-store (allLeft a ps qs)
 
   outcome-kept : (s : Status) (p : Pointer) (q : Picture) (f : Fragment) (ds : List ℕ) → keeps-left (outcome s p q f ds image marks)
   unfolding keeps-left keeps-store outcome
   outcome-kept s p q f ds =
-      by-test keeps-left (accepted s) _ (storing.after (store.Refused s 0) image marks) (λ e h. absurd (h refl)) (λ e h. refl)
+      by-test keeps-left (accepted s) _ (storing.storeResult (store.Refused s 0) image marks) (λ e h. absurd (h refl)) (λ e h. refl)
 
 pub store-refusal-keeps : StoreRefusalKeeps
 unfolding StoreRefusalKeeps cursorStore stored keeps-store keeps-left

@@ -21,8 +21,8 @@ use Rattle.cursor_picture.specs.declared.Picture.{Picture}
 use Rattle.cursor_picture.specs.Picture.{held}
 use Rattle.cursor_store.specs.declared.storing.Assembled.{Assembled}
 use Rattle.cursor_store.specs.declared.storing.StoreAnswer.the-variants.{Accepted, Refused}
-use Rattle.cursor_store.specs.Storing.{after, pointerAfter, outcome, storeStatus, stored}
-use Rattle.cursor_store.specs.Assembling.{Left, left, assembledAs, fragmentAssembled, assembled}
+use Rattle.cursor_store.specs.Storing.{storeResult, pointerAfter, outcome, storeStatus, stored}
+use Rattle.cursor_store.specs.Assembling.{AssembleResult, assembleResult, assembledAs, fragmentAssembled, assembled}
 use Rattle.cursor_store.proofs.Laws.Storing.{store-status}
 
 -- a parsed packet's fragment, where it is accepted
@@ -49,7 +49,7 @@ module _ (packet : List ℕ) (m : Parsed) (e : m ≡ parsed packet) where
 module _ (q : Picture) (packet image marks : List ℕ) where
   pub assembled-not-held
       : held q (length image) (length marks) ≡ false
-      → assembled q packet image marks ≡ left (record { status = status.ImageNotHeld; picture = q }) image marks
+      → assembled q packet image marks ≡ assembleResult (record { status = status.ImageNotHeld; picture = q }) image marks
   unfolding assembled assembledAs
   assembled-not-held h =
       let t : storeStatus q packet image marks ≡ status.ImageNotHeld = store-status q packet image marks ∙ simp h in
@@ -57,7 +57,7 @@ module _ (q : Picture) (packet image marks : List ℕ) where
 
   module _ (h : held q (length image) (length marks) ≡ true) (m : Parsed) (e : m ≡ parsed packet) where
     pub assembled-refused
-        : accepted (m .status) ≡ false → assembled q packet image marks ≡ left (record { status = m .status; picture = q }) image marks
+        : accepted (m .status) ≡ false → assembled q packet image marks ≡ assembleResult (record { status = m .status; picture = q }) image marks
     unfolding assembled assembledAs
     assembled-refused a =
         let n : accepted (fragmentStatus packet) ≡ false = ap accepted (sym (parsed-status packet m e)) ∙ a in
@@ -88,25 +88,25 @@ module _ (p : Pointer) (packet : List ℕ) where
 -- the status of what is left is that of the checks
 has-status : (s : Status) (q : Picture) (f : Fragment) (ds image marks : List ℕ) → assembledAs s q f ds image marks .answer .status ≡ s
 unfolding assembledAs
-has-status s q f ds image marks = by-test (λ (x : Left). x .answer .status ≡ s) (accepted s) _ _ (λ e. refl) (λ e. refl)
+has-status s q f ds image marks = by-test (λ (x : AssembleResult). x .answer .status ≡ s) (accepted s) _ _ (λ e. refl) (λ e. refl)
 
 -- with the pointer: the call as a host sees it
 module _ (p : Pointer) (q : Picture) (packet image marks : List ℕ) (r : Assembled) (bytes filled : List ℕ)
-    (e : left r bytes filled ≡ assembled q packet image marks) where
+    (e : assembleResult r bytes filled ≡ assembled q packet image marks) where
   answer-status : r .status ≡ storeStatus q packet image marks
   unfolding assembled
-  answer-status = ap (λ (x : Left). x .answer .status) e ∙ has-status (storeStatus q packet image marks) q (fragmentOf packet) (dataOf packet) image marks
+  answer-status = ap (λ (x : AssembleResult). x .answer .status) e ∙ has-status (storeStatus q packet image marks) q (fragmentOf packet) (dataOf packet) image marks
 
   pub stored-accepted
       : accepted (r .status) ≡ true
-      → after (Accepted (r .picture) (pointerAfter p (fragmentOf packet))) bytes filled ≡ stored p q packet image marks
+      → storeResult (Accepted (r .picture) (pointerAfter p (fragmentOf packet))) bytes filled ≡ stored p q packet image marks
   unfolding assembled assembledAs stored outcome
   stored-accepted a =
       let n : accepted (storeStatus q packet image marks) ≡ true = ap accepted (sym answer-status) ∙ a in
-      ap (λ (x : Left). after (Accepted (x .answer .picture) (pointerAfter p (fragmentOf packet))) (x .image) (x .marks)) e ∙ simp n
+      ap (λ (x : AssembleResult). storeResult (Accepted (x .answer .picture) (pointerAfter p (fragmentOf packet))) (x .image) (x .marks)) e ∙ simp n
 
-  pub stored-refused : accepted (r .status) ≡ false → after (Refused (r .status) 0) bytes filled ≡ stored p q packet image marks
+  pub stored-refused : accepted (r .status) ≡ false → storeResult (Refused (r .status) 0) bytes filled ≡ stored p q packet image marks
   unfolding assembled assembledAs stored outcome
   stored-refused a =
       let n : accepted (storeStatus q packet image marks) ≡ false = ap accepted (sym answer-status) ∙ a in
-      ap (λ (x : Left). after (Refused (x .answer .status) 0) (x .image) (x .marks)) e ∙ simp n
+      ap (λ (x : AssembleResult). storeResult (Refused (x .answer .status) 0) (x .image) (x .marks)) e ∙ simp n

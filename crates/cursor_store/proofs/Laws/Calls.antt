@@ -19,17 +19,17 @@ use Rattle.cursor_picture.specs.declared.Picture.{Picture}
 use Rattle.cursor_picture.proofs.Laws.Picture.{room-says}
 use Rattle.cursor_store.specs.declared.storing.StoreAnswer.the-variants.{Refused}
 use Rattle.cursor_store.specs.Judging.{ofOpened, opens, judging}
-use Rattle.cursor_store.specs.Storing.{after, openedBy, openedFor, clearedFor, imageAfter, marksAfter, withStart, pictureAfter, pointerAfter, outcome, storeStatus, stored}
+use Rattle.cursor_store.specs.Storing.{storeResult, openedBy, openedFor, clearedFor, imageAfter, marksAfter, withStart, pictureAfter, pointerAfter, outcome, storeStatus, stored}
 use Rattle.cursor_store.specs.Calls.{State, isAccepted, answered, next, covers, RefusalKeeps, OutsideKept, FormerStaysClosed}
 use Rattle.cursor_store.proofs.Laws.Judging.{judged-room, judged-late}
 use Rattle.cursor_store.proofs.Laws.Storing.{store-passed}
 
 module _ (t : Status) (p : Pointer) (q : Picture) (f : Fragment) (ds image marks : List ℕ) where
-  refused-is : isAccepted (outcome t p q f ds image marks .answer) ≡ false → outcome t p q f ds image marks ≡ after (Refused t 0) image marks
+  refused-is : isAccepted (outcome t p q f ds image marks .answer) ≡ false → outcome t p q f ds image marks ≡ storeResult (Refused t 0) image marks
   unfolding outcome
   refused-is h = go (accepted t) refl
     where
-      go : (b : Bool) → accepted t ≡ b → outcome t p q f ds image marks ≡ after (Refused t 0) image marks
+      go : (b : Bool) → accepted t ≡ b → outcome t p q f ds image marks ≡ storeResult (Refused t 0) image marks
       go true e = absurd (false≢true (sym h ∙ simp e))
       go false e = simp e
 

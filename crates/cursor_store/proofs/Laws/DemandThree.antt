@@ -32,7 +32,7 @@ use Rattle.cursor_picture.proofs.Laws.Completeness.{all-filled, filled-all}
 use Rattle.cursor_picture.proofs.Laws.Picture.{room-says, held-says}
 use Rattle.cursor_store.specs.declared.storing.StoreAnswer.the-variants.{Accepted}
 use Rattle.cursor_store.specs.Judging.{ofOpened, sameStart, startDiffers, part, bytesDiffer, openedRules, judging}
-use Rattle.cursor_store.specs.Storing.{after, openedFor, clearedFor, imageAfter, marksAfter, withStart, pictureAfter, pointerAfter, outcome, taken}
+use Rattle.cursor_store.specs.Storing.{storeResult, openedFor, clearedFor, imageAfter, marksAfter, withStart, pictureAfter, pointerAfter, outcome, fragmentStored}
 use Rattle.cursor_store.specs.Calls.{State, Call, fragment, other, isAccepted, answered, next, run, covers, RefusalKeeps}
 use Rattle.cursor_store.specs.DemandThree.{Whole, totalOf, OpenedAs, CutFrom, Taken, StartsHave, Given, covered, started, AllAccepted, SameFragment, Among, Within, SameEnd, DemandThree}
 use Rattle.cursor_store.proofs.Laws.Calls.{refusal-keeps}
@@ -140,8 +140,8 @@ module _ (w : Whole) (s : State) (a : Start) (o : OpenedAs w s) (u : s .picture 
     marks = splice (f .offset) (replicate (length ds) 1) (s .marks);
   }
 
-  answer-is : answered s packet ≡ after (Accepted (then-is .picture) (then-is .pointer)) (then-is .image) (then-is .marks)
-  unfolding taken outcome openedFor clearedFor imageAfter marksAfter pictureAfter
+  answer-is : answered s packet ≡ storeResult (Accepted (then-is .picture) (then-is .pointer)) (then-is .image) (then-is .marks)
+  unfolding fragmentStored outcome openedFor clearedFor imageAfter marksAfter pictureAfter
   answer-is =
       stored-well (s .pointer) (s .picture) packet (s .image) (s .marks) (o .clear) (c .well-formed)
       ∙ simp judged (simp is-opened)

@@ -18,7 +18,7 @@ use Rattle.cursor_picture.specs.declared.Picture.{Picture}
 use Rattle.cursor_picture.specs.Picture.{held}
 use Rattle.cursor_store.specs.declared.storing.StoreAnswer.the-variants.{Accepted, Refused}
 use Rattle.cursor_store.specs.Judging.{judging, SequenceIgnored}
-use Rattle.cursor_store.specs.Storing.{after, openedFor, clearedFor, imageAfter, marksAfter, withStart, pictureAfter, pointerAfter, outcome, taken, storeChecks, storeStatus, stored, OldContinuationStored}
+use Rattle.cursor_store.specs.Storing.{storeResult, openedFor, clearedFor, imageAfter, marksAfter, withStart, pictureAfter, pointerAfter, outcome, fragmentStored, storeChecks, storeStatus, stored, OldContinuationStored}
 use Rattle.cursor_store.proofs.Laws.Judging.{opened-same, sequence-ignored}
 
 pub store-status
@@ -31,8 +31,8 @@ store-status q packet image marks = rw (first-append (fragmentChecks (isStart pa
 
 pub stored-well
     : (p : Pointer) (q : Picture) (packet image marks : List ℕ) → held q (length image) (length marks) ≡ true → accepted (fragmentStatus packet) ≡ true
-    → stored p q packet image marks ≡ taken p q (fragmentOf packet) (dataOf packet) image marks
-unfolding stored taken
+    → stored p q packet image marks ≡ fragmentStored p q (fragmentOf packet) (dataOf packet) image marks
+unfolding stored fragmentStored
 stored-well p q packet image marks h e =
     ap (λ (s : Status). outcome s p q (fragmentOf packet) (dataOf packet) image marks) (store-status q packet image marks ∙ simp (h, e))
 
@@ -41,7 +41,7 @@ pub part-length : (at n : ℕ) (xs : List ℕ) → at + n ≤ length xs → leng
 part-length at n xs h = simp (length-take, length-drop) (omega arith)
 
 pub old-continuation-stored : OldContinuationStored
-unfolding OldContinuationStored SequenceIgnored taken outcome openedFor clearedFor imageAfter marksAfter withStart pictureAfter pointerAfter
+unfolding OldContinuationStored SequenceIgnored fragmentStored outcome openedFor clearedFor imageAfter marksAfter withStart pictureAfter pointerAfter
 old-continuation-stored n p q f ds image marks h e =
     rw (sequence-ignored n q f ds image marks h) (simp (opened-same n q f, h) (simp e))
 

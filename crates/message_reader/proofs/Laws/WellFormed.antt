@@ -55,10 +55,10 @@ module _ (s : List ℕ) (at : ℕ) (m : Message) (i : Sound s at m) (k : Taken s
   new =
       let e : at + 3 - 3 ≡ at = omega arith in
       record {
-        after = omega (arith, i .size, size-least m 8);
+        past-header = omega (arith, i .size, size-least m 8);
         within = omega arith;
         type = rw e;
-        length = rw e;
+        length-declared = rw e;
         expected = k .expected;
         fitting = k .fitting;
       }
@@ -67,10 +67,10 @@ module _ (s : List ℕ) (at : ℕ) (m : Message) (i : Sound s at m) (k : Taken s
   old u p =
       let q = i .placed u p in
       record {
-        after = q .after;
+        past-header = q .past-header;
         within = omega (arith, q .within);
         type = q .type;
-        length = q .length;
+        length-declared = q .length-declared;
         expected = q .expected;
         fitting = q .fitting;
       }

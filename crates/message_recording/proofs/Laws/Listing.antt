@@ -16,7 +16,7 @@ use Rattle.message_recording.specs.declared.line.Line.{Line}
 use Rattle.message_recording.specs.declared.line.Line.the-variants as line
 use Rattle.message_recording.specs.Cut.{neededOf}
 use Rattle.message_recording.specs.Line.{lineOf}
-use Rattle.message_recording.specs.Listing.{after, linesFrom, linesAt, listing}
+use Rattle.message_recording.specs.Listing.{linesAfter, linesFrom, linesAt, listing}
 use Rattle.message_recording.specs.Theorems.{ReadSoFarDecides, MessageExactly, EndExactly}
 use Rattle.message_recording.specs.Theorems.{Listed, RecordingListed, joined, AllAccepted, linesOf, MessagesListed, EndListed}
 use Rattle.message_recording.specs.Theorems as given
@@ -31,7 +31,7 @@ message-size s c n e = let w = message-exactly s c n .0 e .1 in (w .four, w .the
 
 listed-after
     : (k place : ℕ) (s : List ℕ) (x : Line) → lineOf s ≡ x → length s ≤ k
-    → ((p : ℕ) (t : List ℕ) → length t < k → Listed p t (linesFrom k p t)) → Listed place s ((place, x) ∷ after (linesFrom k) place s x)
+    → ((p : ℕ) (t : List ℕ) → length t < k → Listed p t (linesFrom k p t)) → Listed place s ((place, x) ∷ linesAfter (linesFrom k) place s x)
 unfolding EndExactly
 listed-after k place s (line.Message c n) e h go =
     let w = message-size s c n e in
@@ -54,7 +54,7 @@ recording-listed s = listed-from (suc (length s)) 0 s (omega arith)
 same-after
     : (k j place : ℕ) (s : List ℕ) (x : Line) → lineOf s ≡ x → length s ≤ k → length s ≤ j
     → ((p : ℕ) (t : List ℕ) → length t < k → length t < j → linesFrom k p t ≡ linesFrom j p t)
-    → after (linesFrom k) place s x ≡ after (linesFrom j) place s x
+    → linesAfter (linesFrom k) place s x ≡ linesAfter (linesFrom j) place s x
 same-after k j place s (line.Message c n) e h l go =
     let w = message-size s c n e in
     let left = length-drop n s in
@@ -93,7 +93,7 @@ unfolding linesAt linesFrom
 lines-message m t r place e =
     let a = accepted-line m t r e in
     let n = length (m ++ t) in
-    ap (λ (x : Line). (place, x) ∷ after (linesFrom n) place (m ++ t) x) (a .1)
+    ap (λ (x : Line). (place, x) ∷ linesAfter (linesFrom n) place (m ++ t) x) (a .1)
     ∙ ap (λ (l : List (ℕ × Line)). (place, line.Message (commandIn m) (length m)) ∷ l)
     (ap (linesFrom n (place + length m)) (drop-append-seam m t)
     ∙ same-lines n (suc (length t)) (place + length m) t (simp length-append (omega (arith, a .0))) (omega arith))

@@ -23,25 +23,25 @@ use Rattle.session_step.proofs.Laws.Runs.{refusal-keeps}
 use Rattle.session_step.specs.Step.{stepOf}
 use Rattle.session_step.specs.Message.{afterRead, onMessage}
 use Rattle.session_layout.specs.SessionLayout.{stateNumber, sessionOf}
-use Rattle.session_calls.specs.SessionCalls.{after, shortStep, answerOf, bytesLeft, leftBy, sourceIn, taken, sessionStep, sessionMessage, KeptIfRefused, StepRefusalKeeps, MessageRefusalKeeps}
+use Rattle.session_calls.specs.SessionCalls.{stepResult, shortStep, answerOf, bytesLeft, resultOn, sourceIn, lentEnough, sessionStep, sessionMessage, KeptIfRefused, StepRefusalKeeps, MessageRefusalKeeps}
 
 module _ (xs : List ℕ) (event : ℕ) (source : List ℕ) (options : ℕ) where
-  pub step-short : taken (length xs) source ≡ false → sessionStep xs event source options ≡ after shortStep xs
+  pub step-short : lentEnough (length xs) source ≡ false → sessionStep xs event source options ≡ stepResult shortStep xs
   unfolding sessionStep
   step-short e = simp e
 
   pub step-taken
-      : taken (length xs) source ≡ true
-      → sessionStep xs event source options ≡ leftBy (stepOf (sessionOf xs) event (sourceIn source) options) xs
+      : lentEnough (length xs) source ≡ true
+      → sessionStep xs event source options ≡ resultOn (stepOf (sessionOf xs) event (sourceIn source) options) xs
   unfolding sessionStep
   step-taken e = simp e
 
 module _ (xs bytes : List ℕ) where
-  pub message-short : length xs < 19 → sessionMessage xs bytes ≡ after shortStep xs
+  pub message-short : length xs < 19 → sessionMessage xs bytes ≡ stepResult shortStep xs
   unfolding sessionMessage
   message-short l = simp (lt-leb 19 (length xs) l)
 
-  pub message-taken : 19 ≤ length xs → sessionMessage xs bytes ≡ leftBy (onMessage (sessionOf xs) bytes) xs
+  pub message-taken : 19 ≤ length xs → sessionMessage xs bytes ≡ resultOn (onMessage (sessionOf xs) bytes) xs
   unfolding sessionMessage
   message-taken h = simp (le-leb 19 (length xs) h)
 
@@ -49,7 +49,7 @@ module _ (xs bytes : List ℕ) where
 
 module _ (xs : List ℕ) where
   left-kept
-      : (r : Stepped) → r .session ≡ sessionOf xs → (numberOf (r .answer .status) ≡ 0 → ⊥) → leftBy r xs ≡ after (answerOf (r .answer)) xs
+      : (r : Stepped) → r .session ≡ sessionOf xs → (numberOf (r .answer .status) ≡ 0 → ⊥) → resultOn r xs ≡ stepResult (answerOf (r .answer)) xs
   unfolding bytesLeft
   left-kept r e h =
       simp (
@@ -57,17 +57,17 @@ module _ (xs : List ℕ) where
         eq-eqb (stateNumber (r .session .state)) (stateNumber (sessionOf xs .state)) (ap (λ (s : Session). stateNumber (s .state)) e),
       )
 
-  event-kept : (e : Event) → KeptIfRefused xs (leftBy (stepped (sessionOf xs) e) xs)
+  event-kept : (e : Event) → KeptIfRefused xs (resultOn (stepped (sessionOf xs) e) xs)
   unfolding KeptIfRefused Rattle.session_step.specs.Theorems.RefusalKeeps
   event-kept e h k = by (refusal-keeps (sessionOf xs) e (ne-eqb (numberOf (stepped (sessionOf xs) e .answer .status)) 0 h))
     where
       by : (next (sessionOf xs) e ≡ sessionOf xs)
           ⊎ ((isOpen (sessionOf xs .state) ≡ true) × (stepped (sessionOf xs) e ≡ refused status.UnexpectedEvent 0 (closed (sessionOf xs))))
-          → leftBy (stepped (sessionOf xs) e) xs ≡ after (answerOf (stepped (sessionOf xs) e .answer)) xs
+          → resultOn (stepped (sessionOf xs) e) xs ≡ stepResult (answerOf (stepped (sessionOf xs) e .answer)) xs
       by (inl q) = left-kept (stepped (sessionOf xs) e) q h
       by (inr q) = absurd (k (ap (λ (r : Stepped). numberOf (r .answer .status)) (q .1)))
 
-  read-kept : (bytes : List ℕ) (a : Answer) → KeptIfRefused xs (leftBy (afterRead bytes (sessionOf xs) a) xs)
+  read-kept : (bytes : List ℕ) (a : Answer) → KeptIfRefused xs (resultOn (afterRead bytes (sessionOf xs) a) xs)
   unfolding KeptIfRefused
   read-kept bytes (reader.Accepted m) = event-kept (record { number = m .command; source = sourceOf bytes m; options = optionsOf bytes m })
   read-kept bytes (reader.Refused st place) = λ h k. left-kept (refused st place (sessionOf xs)) refl h
@@ -75,11 +75,11 @@ module _ (xs : List ℕ) where
 pub step-refusal-keeps : StepRefusalKeeps
 unfolding StepRefusalKeeps sessionStep KeptIfRefused
 step-refusal-keeps xs event source options =
-    by-test (KeptIfRefused xs) (taken (length xs) source) _ (after shortStep xs)
+    by-test (KeptIfRefused xs) (lentEnough (length xs) source) _ (stepResult shortStep xs)
     (λ e. event-kept xs (record { number = event; source = sourceIn source; options = options }))
     (λ e h k. refl)
 
 pub message-refusal-keeps : MessageRefusalKeeps
 unfolding MessageRefusalKeeps sessionMessage onMessage KeptIfRefused
 message-refusal-keeps xs bytes =
-    by-test (KeptIfRefused xs) (leb 19 (length xs)) _ (after shortStep xs) (λ e. read-kept xs bytes (readMessage bytes)) (λ e h k. refl)
+    by-test (KeptIfRefused xs) (leb 19 (length xs)) _ (stepResult shortStep xs) (λ e. read-kept xs bytes (readMessage bytes)) (λ e h k. refl)

@@ -7,8 +7,8 @@ use borrow.Author.Needs.{needs}
 use Rattle.session_calls.proofs.on_event.Statement.{statement}
 use Rattle.session_calls.proofs.on_event.Tie as tie
 
-are-taken-requires : tie.Need-are-taken-requires
-are-taken-requires c κs = search needs
+lent-enough-requires : tie.Need-lent-enough-requires
+lent-enough-requires c κs = search needs
 
 short-requires : tie.Need-short-requires
 short-requires c κs = search needs
@@ -18,7 +18,7 @@ returns c =
     let t = c .before .before in
     let a = t .before .before .before .args in
     rw (c .short .ensures)
-    (sym (step-short (now (a .«record»)) (a .event) (now (a .source)) (a .options) (sym (t .are-taken .ensures) ∙ not-true _ (c .before .if1 .taken))))
+    (sym (step-short (now (a .«record»)) (a .event) (now (a .source)) (a .options) (sym (t .lent-enough .ensures) ∙ not-true _ (c .before .if1 .taken))))
 
 read-requires : tie.Need-read-requires
 read-requires c κs = search needs
@@ -49,13 +49,13 @@ returns-2 c =
     let a = t .before .before .before .args in
     l .leave .ensures
     ∙ rw (n .number-of .ensures, s .step .ensures, s .before .source-of .ensures, r .read .ensures)
-    (sym (step-taken (now (a .«record»)) (a .event) (now (a .source)) (a .options) (sym (t .are-taken .ensures) ∙ not-false _ (i .if1 .left))))
+    (sym (step-taken (now (a .«record»)) (a .event) (now (a .source)) (a .options) (sym (t .lent-enough .ensures) ∙ not-false _ (i .if1 .left))))
 
 pub on-event-spec : {M : Type 1} → statement M
 on-event-spec =
     tie.close
     (tie.spec
-    are-taken-requires
+    lent-enough-requires
     short-requires
     returns
     read-requires

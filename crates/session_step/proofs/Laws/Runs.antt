@@ -15,7 +15,8 @@ use Rattle.session_table.specs.declared.record.State.the-variants as state
 use Rattle.session_table.specs.declared.record.Session.{Session}
 use Rattle.session_table.specs.declared.table.Next.{Next}
 use Rattle.session_table.specs.declared.table.Next.the-variants.{NoEvent, Unexpected, CheckPin, PinOrReady, ToHandshake, ToReadyWait, ToProjecting, ToClosed}
-use Rattle.session_table.specs.Record.{noSource, freshSession, isOpen}
+use Rattle.message_rules.specs.Accessors.{noSource}
+use Rattle.session_table.specs.Record.{freshSession, isOpen}
 use Rattle.session_table.specs.Source.{carried, otherSource}
 use Rattle.session_table.specs.Table.{table, isEvent}
 use Rattle.session_table.proofs.Laws.Table.{implied, isProjecting, stateAfter, isTaken, pinAfter, sound, closed-row, byReady, by-ready, staysSound, stays-sound}
