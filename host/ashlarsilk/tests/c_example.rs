@@ -41,6 +41,24 @@ fn the_example_prints_what_the_papers_say() {
     assert_eq!(run(&program), expected);
 }
 
+/// The piece of C that docs/HOSTS.md shows compiles and links, with a `main` that takes one message.
+#[test]
+fn the_snippet_of_hosts_compiles() {
+    let hosts = fs::read_to_string(root().join("docs/HOSTS.md")).expect("docs/HOSTS.md");
+    let (_, rest) = hosts.split_once("```c\n").expect("a block of C");
+    let (snippet, _) = rest.split_once("```").expect("its end");
+    let source = snippet.to_string()
+        + "bool pin_is_right(const uint8_t *bytes, const uint8_t *record)\n"
+        + "{\n    return bytes != record;\n}\n"
+        + "int main(void)\n{\n"
+        + "    uint8_t session[ASHLARSILK_SESSION_LENGTH] = {0};\n"
+        + "    const uint8_t stop[] = {0, 3, 1, 2};\n"
+        + "    return take(session, stop, sizeof stop) ? 1 : 0;\n}\n";
+    let file = Path::new(env!("CARGO_TARGET_TMPDIR")).join("snippet.c");
+    fs::write(&file, source).expect("the program is written");
+    assert_eq!(run(&compile(&file, "c-snippet")), "");
+}
+
 /// The header's numbers are those of this crate: lengths of records, statuses, sizes of answers.
 #[test]
 fn the_header_has_the_same_numbers() {
