@@ -12,7 +12,7 @@ use Rattle.cursor_packet.specs.Rtp.{unusedZero, rtpHolds}
 use Rattle.cursor_packet.specs.Frame.{frameChecks}
 use Rattle.cursor_packet.specs.Examples.{rtp}
 use Rattle.cursor_fragment.specs.declared.FragmentAnswer.the-variants as fragment
-use Rattle.cursor_fragment.specs.Fragment.{takesType, headerOf, imageData, offsetOf, outside, fragmentFrame, fragmentChecks, startFragment, fragmentOf, fragmentStatus, dataOf, readFragment}
+use Rattle.cursor_fragment.specs.Fragment.{takesType, headerLength, imageData, offsetOf, outside, fragmentFrame, fragmentChecks, startFragment, fragmentOf, fragmentStatus, dataOf, readFragment}
 use Rattle.cursor_fragment.specs.Continuation.{continuationOf}
 use Rattle.cursor_fragment.specs.Start.{startOf}
 
@@ -24,7 +24,7 @@ pub p10
     : (fragmentStatus (eight 13 (0 ∷ 0 ∷ 0 ∷ 8 ∷ [])) ≡ status.Accepted)
     × (fragmentStatus (eight 15 (0 ∷ 0 ∷ 0 ∷ 7 ∷ 65 ∷ 66 ∷ [])) ≡ status.OutsideImage)
     × (fragmentStatus (eight 13 (0xff ∷ 0xff ∷ 0xff ∷ 0xff ∷ [])) ≡ status.OutsideImage)
-unfolding fragmentFrame fragmentChecks firstOf frameChecks rtpHolds unusedZero number signed takesType headerOf imageData continuationOf offsetOf outside
+unfolding fragmentFrame fragmentChecks firstOf frameChecks rtpHolds unusedZero number signed takesType headerLength imageData continuationOf offsetOf outside
 p10 = (refl, refl, refl)
 
 -- a start: total 4, id 9, position −2, 10, image type 3, hot spot 1, 2, two bytes of data
@@ -44,11 +44,11 @@ pub start-read
       y = pos 10;
       start = record { «image_type» = 3; «hot_x» = 1; «hot_y» = 2 };
     })
-unfolding readFragment fragmentOf startFragment startOf fragmentFrame fragmentChecks firstOf frameChecks rtpHolds unusedZero number signed takesType headerOf imageData continuationOf offsetOf outside
+unfolding readFragment fragmentOf startFragment startOf fragmentFrame fragmentChecks firstOf frameChecks rtpHolds unusedZero number signed takesType headerLength imageData continuationOf offsetOf outside
 start-read = refl
 
 pub start-data : dataOf start ≡ 65 ∷ 66 ∷ []
-unfolding imageData headerOf number
+unfolding imageData headerLength number
 start-data = refl
 
 -- the order: too short before a wrong type, a wrong RTP field before a wrong type, a wrong type before a wrong size; the call takes its own
@@ -59,5 +59,5 @@ pub in-order
     × (fragmentStatus (rtp 5 ++ (1 ∷ 0 ∷ 0 ∷ [])) ≡ status.UnknownKind)
     × (fragmentStatus (rtp 5 ++ (3 ∷ 0 ∷ 12 ∷ [])) ≡ status.WrongSize)
     × (fragmentStatus (rtp 5 ++ (3 ∷ 0 ∷ 13 ∷ [])) ≡ status.Truncated)
-unfolding fragmentFrame fragmentChecks firstOf frameChecks rtpHolds unusedZero number signed takesType headerOf imageData continuationOf offsetOf outside
+unfolding fragmentFrame fragmentChecks firstOf frameChecks rtpHolds unusedZero number signed takesType headerLength imageData continuationOf offsetOf outside
 in-order = (refl, refl, refl, refl, refl)

@@ -26,11 +26,11 @@ abbrev pub isStart : List ℕ → Bool
 isStart p = eqb (typeOf p) 2
 
 -- the header from MsgType to the data: 18 bytes of a start, 13 of a continuation
-unfoldable pub headerOf : Bool → ℕ
-headerOf starts = cond starts 18 13
+unfoldable pub headerLength : Bool → ℕ
+headerLength starts = cond starts 18 13
 
 unfoldable pub imageData : Bool → List ℕ → List ℕ
-imageData starts p = drop (12 + headerOf starts) p
+imageData starts p = drop (12 + headerLength starts) p
 
 -- a start's data stand at offset 0
 unfoldable pub offsetOf : Bool → List ℕ → ℤ
@@ -43,7 +43,7 @@ outside (negsuc k) size total = true
 
 -- the checks of the call for starts and continuations on the packet alone, in their order
 unfoldable pub fragmentFrame : Bool → List ℕ → List Check
-fragmentFrame starts p = frameChecks (takesType (typeOf p)) (leb (headerOf starts) (sizeOf p)) p
+fragmentFrame starts p = frameChecks (takesType (typeOf p)) (leb (headerLength starts) (sizeOf p)) p
 
 unfoldable pub fragmentChecks : Bool → List ℕ → List Check
 fragmentChecks starts p =

@@ -12,13 +12,13 @@ use Rattle.cursor_fragment.specs.declared.Fragment.{Fragment}
 use Rattle.cursor_fragment.specs.declared.Parsed.{Parsed}
 use Rattle.cursor_packet.specs.Checks.{Check, refuse, accepted}
 use Rattle.cursor_packet.specs.Frame.{sizeOf}
-use Rattle.cursor_fragment.specs.Fragment.{headerOf, imageData, offsetOf, outside, fragmentOf, fragmentStatus}
+use Rattle.cursor_fragment.specs.Fragment.{headerLength, imageData, offsetOf, outside, fragmentOf, fragmentStatus}
 use Rattle.cursor_fragment.specs.Start.{noStart}
 
 -- the checks that follow those of the header and the type: 2, 1, 2, 9
 unfoldable pub bodyChecks : Bool → List ℕ → List Check
 bodyChecks starts p =
-    refuse status.WrongSize (not (leb (headerOf starts) (sizeOf p)))
+    refuse status.WrongSize (not (leb (headerLength starts) (sizeOf p)))
     ∷ refuse status.Truncated (ltb (length p) (12 + sizeOf p))
     ∷ refuse status.WrongSize (ltb (12 + sizeOf p) (length p))
     ∷ refuse status.OutsideImage (outside (offsetOf starts p) (length (imageData starts p)) (number 4 p 15))

@@ -20,7 +20,7 @@ ghost use Rattle.wire.specs.Signed.{signed};
 ghost use Rattle.cursor_packet.specs.Checks.{firstOf};
 ghost use Rattle.cursor_fragment.specs.Continuation.{continuationOf, placeOf};
 ghost use mathlib.Core.Bool.{true, false};
-ghost use Rattle.cursor_fragment.specs.Fragment.{isStart, headerOf, imageData, outside, startFragment, continuationFragment, readFragment};
+ghost use Rattle.cursor_fragment.specs.Fragment.{isStart, headerLength, imageData, outside, startFragment, continuationFragment, readFragment};
 ghost use Rattle.cursor_fragment.specs.Parsing.{bodyChecks, noFragment, refusedAs, parsedAs, parsed};
 use continuation::Continuation;
 use cursor_packet::frame;
@@ -63,7 +63,7 @@ pub fn is_start(packet: &[u8]) -> bool
 }
 
 fn header(starts: bool) -> usize
-    ensures { λ r. ⌜ r ≡ headerOf starts ⌝ }
+    ensures { λ r. ⌜ r ≡ headerLength starts ⌝ }
 {
     if starts {
         Start::HEADER

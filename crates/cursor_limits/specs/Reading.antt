@@ -6,6 +6,7 @@ use lib.Dec.{eqb}
 use lib.ListN.{length, getD, take, drop}
 use Rattle.wire.specs.declared.status.Status.the-variants as status
 use Rattle.wire.specs.Status.{numberOf}
+use Rattle.wire.specs.Splice.{part}
 use Rattle.text.specs.declared.hex.Digits.{Digits}
 use Rattle.text.specs.declared.hex.Digits.the-variants as digits
 use Rattle.cursor_limits.specs.declared.value.Xor.{Xor}
@@ -42,10 +43,6 @@ limitsOf x (digits.Number w) digits.NotHexadecimal p = notGrammar
 limitsOf x (digits.Number w) (digits.Number h) digits.NotHexadecimal = notGrammar
 limitsOf x (digits.Number w) (digits.Number h) (digits.Number p) =
     answer.Accepted (value.Supported (record { xor = x; width = w; height = h; port = p }))
-
--- the n bytes from `at`
-abbrev pub part : ℕ → ℕ → List ℕ → List ℕ
-part at n s = take n (drop at s)
 
 -- SP x-max SP y-max SP port, after the four letters of the xor support
 unfoldable pub readLimits : Xor → List ℕ → Answer

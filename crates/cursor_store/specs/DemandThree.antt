@@ -12,7 +12,7 @@ use Rattle.cursor_fragment.specs.declared.start.Start.{Start}
 use Rattle.cursor_picture.specs.declared.completeness.CompleteAnswer.the-variants.{Yes}
 use Rattle.cursor_picture.specs.Picture.{held}
 use Rattle.cursor_picture.specs.Completeness.{completeness}
-use Rattle.cursor_store.specs.Judging.{part}
+use Rattle.wire.specs.Splice.{part}
 use Rattle.cursor_store.specs.Calls.{State, Call, fragment, other, isAccepted, answered, next, run, covers}
 
 -- one whole picture under its id; its total is the number of its bytes

@@ -17,7 +17,7 @@ use Rattle.cursor_packet.specs.Checks.{firstOf}
 use Rattle.cursor_packet.specs.Frame.{frameChecks}
 use Rattle.cursor_packet.specs.Rtp.{rtpHolds, unusedZero}
 use Rattle.cursor_packet.specs.Position.{positionChecks, positionOf}
-use Rattle.cursor_fragment.specs.Fragment.{takesType, headerOf, imageData, offsetOf, outside, fragmentFrame, fragmentChecks, startFragment, continuationFragment, fragmentOf}
+use Rattle.cursor_fragment.specs.Fragment.{takesType, headerLength, imageData, offsetOf, outside, fragmentFrame, fragmentChecks, startFragment, continuationFragment, fragmentOf}
 use Rattle.cursor_fragment.specs.Continuation.{continuationOf, placeOf}
 use Rattle.cursor_fragment.specs.Start.{startOf, noStart}
 use Rattle.cursor_pointer.specs.declared.PointerAnswer.the-variants as pointer
@@ -59,7 +59,7 @@ pub p10
     : (storeStatus freshPicture (eight 13 (0 ∷ 0 ∷ 0 ∷ 8 ∷ [])) nine nine ≡ status.Accepted)
     × (storeStatus freshPicture (eight 15 (0 ∷ 0 ∷ 0 ∷ 7 ∷ 65 ∷ 66 ∷ [])) nine nine ≡ status.OutsideImage)
     × (storeStatus freshPicture (eight 13 (0xff ∷ 0xff ∷ 0xff ∷ 0xff ∷ [])) nine nine ≡ status.OutsideImage)
-unfolding storeStatus storeChecks freshPicture held hasRoom judging openedRules otherRules ofOpened isNewer fragmentChecks fragmentFrame firstOf frameChecks rtpHolds unusedZero number signed takesType headerOf imageData continuationOf offsetOf placeOf outside fragmentOf continuationFragment
+unfolding storeStatus storeChecks freshPicture held hasRoom judging openedRules otherRules ofOpened isNewer fragmentChecks fragmentFrame firstOf frameChecks rtpHolds unusedZero number signed takesType headerLength imageData continuationOf offsetOf placeOf outside fragmentOf continuationFragment
 p10 = (refl, refl, refl)
 
 -- The premises of demand 3 can be met: a picture of four bytes under id 9, its last place filled, and two lists of the same three
@@ -109,5 +109,5 @@ pub ends-with
     × (run opened backwards .marks ≡ 1 ∷ 1 ∷ 1 ∷ 1 ∷ 7 ∷ [])
     × (completeness (run opened forwards .picture) 5 (run opened forwards .marks) ≡ complete.Yes)
     × (completeness (opened .picture) 5 (opened .marks) ≡ complete.No)
-unfolding run next stored outcome storeStatus storeChecks held hasRoom judging openedRules otherRules ofOpened sameStart startDiffers bytesDiffer conflictIn someBelow lesser isNewer distance movedTo openedFor clearedFor imageAfter marksAfter withStart pictureAfter pointerAfter splice fragmentChecks fragmentFrame firstOf frameChecks rtpHolds unusedZero number signed takesType headerOf imageData startOf noStart continuationOf offsetOf placeOf outside fragmentOf startFragment continuationFragment allFilled completeness
+unfolding run next stored outcome storeStatus storeChecks held hasRoom judging openedRules otherRules ofOpened sameStart startDiffers bytesDiffer conflictIn someBelow lesser isNewer distance movedTo openedFor clearedFor imageAfter marksAfter withStart pictureAfter pointerAfter splice fragmentChecks fragmentFrame firstOf frameChecks rtpHolds unusedZero number signed takesType headerLength imageData startOf noStart continuationOf offsetOf placeOf outside fragmentOf startFragment continuationFragment allFilled completeness
 ends-with = (refl, refl, refl, refl, refl)

@@ -7,8 +7,9 @@ use mathlib.Core.Path.{_≡_}
 use mathlib.Core.Bool.{Bool, true, false, not, cond, _&&_, _||_}
 use mathlib.Core.List.{List, [], _∷_}
 use lib.Dec.{eqb}
-use lib.ListN.{length, take, drop}
+use lib.ListN.{length}
 use Rattle.wire.specs.Sequence.{isNewer}
+use Rattle.wire.specs.Splice.{part}
 use Rattle.wire.specs.declared.status.Status.the-variants as status
 use Rattle.scan.specs.Conflict.{conflictIn}
 use Rattle.cursor_packet.specs.Checks.{Check, refuse, firstOf}
@@ -32,10 +33,6 @@ sameStart a b = eqb (a .«image_type») (b .«image_type») && (eqb (a .«hot_x�
 -- a second start differs in its own fields
 unfoldable pub startDiffers : Picture → Fragment → Bool
 startDiffers q f = f .starts && (q .seen && not (sameStart (q .start) (f .start)))
-
--- the n elements from `at` on
-abbrev pub part : ℕ → ℕ → List ℕ → List ℕ
-part at n xs = take n (drop at xs)
 
 -- a filled place would get another byte: the data's own places are compared
 unfoldable pub bytesDiffer : ℕ → List ℕ → List ℕ → List ℕ → Bool

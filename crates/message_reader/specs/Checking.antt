@@ -29,9 +29,9 @@ tlvIn s at row =
     (tlv.Right (typeAt s at) (lengthAt s at))))))
 
 -- what this says of the TLV at `at`, m being the record of the TLVs before it
-abbrev pub stepOf : ℕ → Message → Tlv → Step
-stepOf at m (tlv.Right t n) = step.Known (at + 3 + n) (withField m t (record { present = true; at = at + 3; len = n }))
-stepOf at m (tlv.Refused st) = step.Refused st at
+abbrev pub tlvStep : ℕ → Message → Tlv → Step
+tlvStep at m (tlv.Right t n) = step.Known (at + 3 + n) (withField m t (record { present = true; at = at + 3; len = n }))
+tlvStep at m (tlv.Refused st) = step.Refused st at
 
 -- type t is not needed, or was there
 abbrev pub notNeeded : List ℕ → ℕ → Bool

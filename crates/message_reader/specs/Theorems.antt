@@ -24,7 +24,7 @@ pub record Headed (s : List ℕ) : Type 0 where
   pub command : knownCommand (commandIn s) ≡ true
 
 -- The TLV at `at` is right after those of m: within the message, of a type of the command, of a length of its type, for the first time.
-pub record Taken (s : List ℕ) (at : ℕ) (m : Message) : Type 0 where
+pub record RightTlv (s : List ℕ) (at : ℕ) (m : Message) : Type 0 where
   pub whole : nextAt s at ≤ length s
   pub expected : roleOf (m .command) (typeAt s at) ≡ foreign → ⊥
   pub fitting : lengthOk (typeAt s at) (lengthAt s at) ≡ true
@@ -33,7 +33,7 @@ pub record Taken (s : List ℕ) (at : ℕ) (m : Message) : Type 0 where
 -- The TLVs from the header up to `at`, left to right, are right, and m is their record.
 pub data Reached (s : List ℕ) : ℕ → Message → Type 0 where
   start : Reached s 4 (emptyOf (commandIn s))
-  next : {at : ℕ} {m : Message} → Reached s at m → Taken s at m → Reached s (nextAt s at) (withField m (typeAt s at) (valueAt s at))
+  next : {at : ℕ} {m : Message} → Reached s at m → RightTlv s at m → Reached s (nextAt s at) (withField m (typeAt s at) (valueAt s at))
 
 -- What is wrong with the TLV at `at`, after those of m, first in the order of checks.
 pub data Fault (s : List ℕ) (at : ℕ) (m : Message) : Status → Type 0 where

@@ -32,7 +32,7 @@ use Rattle.cursor_packet.specs.Rtp.{unusedZero, rtpHolds}
 use Rattle.cursor_packet.specs.Frame.{frameChecks}
 use Rattle.cursor_packet.specs.Position.{positionChecks, positionOf, readPosition}
 use Rattle.cursor_fragment.specs.Continuation.{continuationOf}
-use Rattle.cursor_fragment.specs.Fragment.{takesType, headerOf as fragmentHeader, imageData, offsetOf, outside, fragmentFrame, fragmentChecks, fragmentStatus}
+use Rattle.cursor_fragment.specs.Fragment.{takesType, headerLength, imageData, offsetOf, outside, fragmentFrame, fragmentChecks, fragmentStatus}
 use Rattle.text.specs.declared.hex.Digits.{Digits}
 use Rattle.text.specs.declared.hex.Digits.the-variants as hexadecimal
 use Rattle.text.specs.Range.{within}
@@ -159,7 +159,7 @@ unfolding
     allBelow number distance isNewer signed
     rolesOf roleOf lengthsOf lengthOk knownCommand fieldOf withField emptyOf headerOf hasNeeded isComplete tlvAt lastOf tlvsFrom readMessage portOf
     firstOf unusedZero rtpHolds frameChecks positionChecks positionOf readPosition
-    takesType fragmentHeader imageData continuationOf offsetOf outside fragmentFrame fragmentChecks
+    takesType headerLength imageData continuationOf offsetOf outside fragmentFrame fragmentChecks
     within digitValue isDigit hexNumber readDigits
     isEvent carried otherSource optionsFrom sourceAfter accepted stepOf
 examples-hold = refl

@@ -17,7 +17,7 @@ use Rattle.cursor_fragment.specs.declared.Fragment.{Fragment}
 use Rattle.cursor_fragment.specs.declared.FragmentAnswer.the-variants.{Accepted, Refused}
 use Rattle.cursor_packet.specs.Checks.{refuse, firstOf, accepted, refusing}
 use Rattle.cursor_packet.specs.Frame.{frameChecks}
-use Rattle.cursor_fragment.specs.Fragment.{isStart, headerOf, imageData, offsetOf, outside, fragmentFrame, fragmentChecks, startFragment, continuationFragment, fragmentOf, fragmentStatus, dataOf, readFragment, OffsetKept, DataInside}
+use Rattle.cursor_fragment.specs.Fragment.{isStart, headerLength, imageData, offsetOf, outside, fragmentFrame, fragmentChecks, startFragment, continuationFragment, fragmentOf, fragmentStatus, dataOf, readFragment, OffsetKept, DataInside}
 use Rattle.cursor_fragment.specs.Continuation.{continuationOf, placeOf}
 use Rattle.cursor_packet.proofs.Laws.Checks.{first-append}
 
@@ -53,19 +53,19 @@ module _ (x : ℕ) (f : x < 256 ^ 4) (n t : ℕ) where
       ]
 
 -- the data's length by PacketMsgSize, where that is the packet's own size
-data-length : (starts : Bool) (p : List ℕ) (size : ℕ) → length p ≡ 12 + size → length (imageData starts p) ≡ size - headerOf starts
+data-length : (starts : Bool) (p : List ℕ) (size : ℕ) → length p ≡ 12 + size → length (imageData starts p) ≡ size - headerLength starts
 unfolding imageData
-data-length starts p size e = length-drop (12 + headerOf starts) p ∙ rw e (let m : (12 + size) - (12 + headerOf starts) ≡ size - headerOf starts = omega arith in m)
+data-length starts p size e = length-drop (12 + headerLength starts) p ∙ rw e (let m : (12 + size) - (12 + headerLength starts) ≡ size - headerLength starts = omega arith in m)
 
 pub start-outside
     : (p : List ℕ) (size t : ℕ) → length p ≡ 12 + size → outside (offsetOf true p) (length (imageData true p)) t ≡ ltb t (size - 18)
-unfolding outside offsetOf headerOf
+unfolding outside offsetOf headerLength
 start-outside p size t e = rw (data-length true p size e) (ap (ltb t) (let n : 0 + (size - 18) ≡ size - 18 = omega arith in n))
 
 pub continuation-outside
     : (p : List ℕ) (size t : ℕ) → length p ≡ 12 + size
     → outside (offsetOf false p) (length (imageData false p)) t ≡ outside (signed 4 (number 4 p 21)) (size - 13) t
-unfolding offsetOf headerOf continuationOf
+unfolding offsetOf headerLength continuationOf
 continuation-outside p size t e = rw (data-length false p size e)
 
 -- the checks on the frame, then 9
@@ -124,8 +124,8 @@ pub data-inside : DataInside
 unfolding DataInside
 data-inside p h = rw (offset-is p (isStart p) refl, total-is p (isStart p) refl) (nine p h .1)
 
-pub header-small : (starts : Bool) → headerOf starts ≤ 18
-unfolding headerOf
+pub header-small : (starts : Bool) → headerLength starts ≤ 18
+unfolding headerLength
 header-small true = omega arith
 header-small false = omega arith
 

@@ -4,10 +4,9 @@ use mathlib.Core.Path.{sym, _∙_}
 use native.Mathlib.Omega.{arith}
 use denote.Ref.{now}
 use Rattle.wire.specs.Number.{number}
-use Rattle.wire.specs.Signed.{signed}
 use Rattle.cursor_packet.specs.Checks.{firstOf}
 use Rattle.cursor_fragment.specs.Continuation.{continuationOf}
-use Rattle.cursor_fragment.specs.Fragment.{headerOf}
+use Rattle.cursor_fragment.specs.Fragment.{headerLength}
 use Rattle.cursor_fragment.specs.Parsing.{bodyChecks, refusedAs, parsedAs}
 use Rattle.cursor_fragment.proofs.Laws.Fragment.{continuation-outside, inside-place}
 use borrow.Author.Needs.{needs}
@@ -24,7 +23,7 @@ refused-requires : tie.Need-refused-requires
 refused-requires c κs = search needs
 
 returns : tie.Need-returns
-unfolding bodyChecks headerOf firstOf parsedAs refusedAs
+unfolding bodyChecks headerLength firstOf parsedAs refusedAs
 returns c = let u = c .before .before in c .refused .ensures ∙ simp (← u .u16-at .ensures, lt-leb 13 _ (c .before .if1 .taken))
 
 add-end : tie.Need-add-end
@@ -34,7 +33,7 @@ refused-requires-2 : tie.Need-refused-requires-2
 refused-requires-2 c κs = search needs
 
 returns-2 : tie.Need-returns-2
-unfolding bodyChecks headerOf firstOf parsedAs refusedAs
+unfolding bodyChecks headerLength firstOf parsedAs refusedAs
 returns-2 c =
     let i = c .before .before in
     c .refused2 .ensures ∙ simp (← i .before .u16-at .ensures, le-leb 13 _ (i .if1 .left), lt-ltb _ _ (c .before .if2 .taken))
@@ -43,7 +42,7 @@ refused-requires-3 : tie.Need-refused-requires-3
 refused-requires-3 c κs = search needs
 
 returns-3 : tie.Need-returns-3
-unfolding bodyChecks headerOf firstOf parsedAs refusedAs
+unfolding bodyChecks headerLength firstOf parsedAs refusedAs
 returns-3 c =
     let k = c .before .before in
     let i = k .before in
@@ -62,7 +61,7 @@ refused-requires-4 : tie.Need-refused-requires-4
 refused-requires-4 c κs = search needs
 
 returns-4 : tie.Need-returns-4
-unfolding bodyChecks headerOf firstOf parsedAs refusedAs
+unfolding bodyChecks headerLength firstOf parsedAs refusedAs
 returns-4 c =
     let o = c .before .before in
     let v = o .before in
@@ -81,7 +80,7 @@ continuation-fragment-requires c κs =
     (v .before .u32-at .ensures, rw (← v .u32-at2 .ensures) (inside-place x (omega arith) _ _ (sym (o .is-outside .ensures) ∙ c .if4 .left)))
 
 returns-5 : tie.Need-returns-5
-unfolding bodyChecks headerOf firstOf parsedAs refusedAs
+unfolding bodyChecks headerLength firstOf parsedAs refusedAs
 returns-5 c =
     let o = c .before .before in
     let v = o .before in

@@ -5,7 +5,7 @@ use native.Mathlib.Omega.{arith}
 use denote.Ref.{now}
 use Rattle.wire.specs.Number.{number}
 use Rattle.cursor_packet.specs.Checks.{firstOf}
-use Rattle.cursor_fragment.specs.Fragment.{headerOf}
+use Rattle.cursor_fragment.specs.Fragment.{headerLength}
 use Rattle.cursor_fragment.specs.Parsing.{bodyChecks, refusedAs, parsedAs}
 use Rattle.cursor_fragment.proofs.Laws.Fragment.{start-outside}
 use borrow.Author.Needs.{needs}
@@ -22,7 +22,7 @@ refused-requires : tie.Need-refused-requires
 refused-requires c κs = search needs
 
 returns : tie.Need-returns
-unfolding bodyChecks headerOf firstOf parsedAs refusedAs
+unfolding bodyChecks headerLength firstOf parsedAs refusedAs
 returns c = let u = c .before .before in c .refused .ensures ∙ simp (← u .u16-at .ensures, lt-leb 18 _ (c .before .if1 .taken))
 
 add-end : tie.Need-add-end
@@ -32,7 +32,7 @@ refused-requires-2 : tie.Need-refused-requires-2
 refused-requires-2 c κs = search needs
 
 returns-2 : tie.Need-returns-2
-unfolding bodyChecks headerOf firstOf parsedAs refusedAs
+unfolding bodyChecks headerLength firstOf parsedAs refusedAs
 returns-2 c =
     let i = c .before .before in
     c .refused2 .ensures ∙ simp (← i .before .u16-at .ensures, le-leb 18 _ (i .if1 .left), lt-ltb _ _ (c .before .if2 .taken))
@@ -41,7 +41,7 @@ refused-requires-3 : tie.Need-refused-requires-3
 refused-requires-3 c κs = search needs
 
 returns-3 : tie.Need-returns-3
-unfolding bodyChecks headerOf firstOf parsedAs refusedAs
+unfolding bodyChecks headerLength firstOf parsedAs refusedAs
 returns-3 c =
     let k = c .before .before in
     let i = k .before in
@@ -57,7 +57,7 @@ refused-requires-4 : tie.Need-refused-requires-4
 refused-requires-4 c κs = search needs
 
 returns-4 : tie.Need-returns-4
-unfolding bodyChecks headerOf firstOf parsedAs refusedAs
+unfolding bodyChecks headerLength firstOf parsedAs refusedAs
 returns-4 c =
     let t = c .before .before in
     let k = t .before in
@@ -70,7 +70,7 @@ start-fragment-requires : tie.Need-start-fragment-requires
 start-fragment-requires c κs = search needs
 
 returns-5 : tie.Need-returns-5
-unfolding bodyChecks headerOf firstOf parsedAs refusedAs
+unfolding bodyChecks headerLength firstOf parsedAs refusedAs
 returns-5 c =
     let t = c .before .before in
     let k = t .before in

@@ -10,7 +10,8 @@ use lib.Dec.{leb, eqb}
 use lib.ListN.{length, getD, take, drop, take-append-drop, length-append, length-drop}
 use lib.Seq.{drop-cons, drop-drop, drop-at, take-at, take-all, drop-length}
 use Rattle.wire.specs.declared.status.Status.the-variants as status
-use Rattle.wire.proofs.Laws.Splice.{part-of-splice}
+use Rattle.wire.specs.Splice.{part}
+use Rattle.wire.proofs.Laws.Splice.{length-part, part-of-splice}
 use Rattle.text.specs.declared.hex.Digits.{Digits}
 use Rattle.text.specs.declared.hex.Digits.the-variants as digits
 use Rattle.cursor_limits.specs.declared.value.Xor.{Xor}
@@ -28,14 +29,13 @@ use Rattle.text.specs.Range.{within}
 use Rattle.text.specs.Hex.{readDigits}
 use Rattle.wire.specs.Laid.{laid}
 use Rattle.text.specs.Word.{lowered, sameLetter, spells, raised}
-use Rattle.cursor_limits.specs.Reading.{answerNumber, answerPlace, notGrammar, readField, limitsOf, part, readLimits, readValue}
+use Rattle.cursor_limits.specs.Reading.{answerNumber, answerPlace, notGrammar, readField, limitsOf, readLimits, readValue}
 use Rattle.cursor_limits.specs.Writing.{spellXor, spellField, spellLimits, spelling, writeAnswer}
 use Rattle.cursor_limits.specs.Theorems.{AcceptsGrammar, RefusesTheRest, TenIfShort, OneMeaning, Sized, none-sized, limits-sized, ReadsBack, canonical, Canonical}
 use Rattle.wire.proofs.Laws.Bool.{impossible}
 use Rattle.text.proofs.Laws.Abnf.{quoted-length, quoted-lowered, quoted-spells, spells-quoted, hexdigs-length, hexdigs-read, read-hexdigs, hexdigs-small, spelled-hexdigs, hexdigs-raised}
 use Rattle.cursor_limits.proofs.Laws.Grammar.{none-small, full-small, full-not-none}
 use Rattle.wire.proofs.Laws.Laid.{laid-fits}
-use Rattle.cursor_limits.proofs.Laws.Writing.{length-part}
 
 -- A string of the grammar is read as its meaning.
 

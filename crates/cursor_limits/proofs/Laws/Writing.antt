@@ -6,7 +6,7 @@ use native.Mathlib.Omega.{arith}
 use native.Mathlib.Numerals.{add-one}
 use borrow.Author.Tests.{le-leb, lt-leb}
 use borrow.Rule.Slice.PartMut.{putMid}
-use lib.ListN.{length, getD, take, drop, set, length-append, length-take, length-drop}
+use lib.ListN.{length, getD, take, drop, set, length-append, length-drop}
 use lib.Seq.{drop-append-seam, drop-cons, drop-length, length-take-le}
 use Rattle.wire.specs.declared.status.Status.the-variants as status
 use Rattle.wire.specs.Splice.{splice}
@@ -35,9 +35,6 @@ pub length-limits : (l : Limits) → length (spellLimits l) ≡ 19
 unfolding spellLimits
 length-limits l =
     simp (length-append, length-xor (l .xor), length-field (l .width), length-field (l .height), length-field (l .port))
-
-pub length-part : (at n : ℕ) (xs : List ℕ) → at + n ≤ length xs → length (take n (drop at xs)) ≡ n
-length-part at n xs h = simp (length-take, length-drop) (omega arith)
 
 -- a space, and the digits in the part after it
 pub field-written : (v : ℕ) (xs : List ℕ) → length xs ≡ 5 → putMid 1 4 (set xs 0 space) (spellDigits 4 v) ≡ spellField v

@@ -10,7 +10,7 @@ use lib.Dec.{leb, ltb, eqb}
 use lib.ListN.{length, getD, drop, replicate, length-replicate, getD-replicate}
 use lib.Seq.{ext-getD, getD-take, getD-drop}
 use borrow.Author.Tests.{leb-true, ltb-true, eq-eqb}
-use Rattle.wire.specs.Splice.{splice}
+use Rattle.wire.specs.Splice.{part, splice}
 use Rattle.wire.specs.declared.status.Status.the-variants as status
 use Rattle.wire.proofs.Laws.Splice.{length-splice, getD-splice}
 use Rattle.scan.specs.Conflict.{conflictAt, conflictIn}
@@ -31,7 +31,7 @@ use Rattle.cursor_picture.specs.Completeness.{allFilled, completeness}
 use Rattle.cursor_picture.proofs.Laws.Completeness.{all-filled, filled-all}
 use Rattle.cursor_picture.proofs.Laws.Picture.{room-says, held-says}
 use Rattle.cursor_store.specs.declared.storing.StoreAnswer.the-variants.{Accepted}
-use Rattle.cursor_store.specs.Judging.{ofOpened, sameStart, startDiffers, part, bytesDiffer, openedRules, judging}
+use Rattle.cursor_store.specs.Judging.{ofOpened, sameStart, startDiffers, bytesDiffer, openedRules, judging}
 use Rattle.cursor_store.specs.Storing.{storeResult, openedFor, clearedFor, imageAfter, marksAfter, withStart, pictureAfter, pointerAfter, outcome, fragmentStored}
 use Rattle.cursor_store.specs.Calls.{State, Call, fragment, other, isAccepted, answered, next, run, covers, RefusalKeeps}
 use Rattle.cursor_store.specs.DemandThree.{Whole, totalOf, OpenedAs, CutFrom, Taken, StartsHave, Given, covered, started, AllAccepted, SameFragment, Among, Within, SameEnd, DemandThree}

@@ -15,7 +15,7 @@ use Rattle.scan.specs.Order.{lesser}
 use Rattle.cursor_packet.specs.Checks.{firstOf}
 use Rattle.cursor_packet.specs.Frame.{frameChecks}
 use Rattle.cursor_packet.specs.Rtp.{rtpHolds, unusedZero}
-use Rattle.cursor_fragment.specs.Fragment.{takesType, headerOf, imageData, offsetOf, outside, fragmentFrame, fragmentChecks, startFragment, continuationFragment, fragmentOf}
+use Rattle.cursor_fragment.specs.Fragment.{takesType, headerLength, imageData, offsetOf, outside, fragmentFrame, fragmentChecks, startFragment, continuationFragment, fragmentOf}
 use Rattle.cursor_fragment.specs.Continuation.{continuationOf, placeOf}
 use Rattle.cursor_fragment.specs.Start.{startOf, noStart}
 use Rattle.cursor_picture.specs.Picture.{hasRoom, held}
@@ -39,23 +39,23 @@ is-opened = record { opened = refl; same-id = refl; same-total = refl; clear = r
 
 module _ (sequence : ℕ) where
   start-cut : CutFrom whole (start sequence 1)
-  unfolding fragmentChecks fragmentFrame firstOf frameChecks rtpHolds unusedZero number takesType headerOf imageData offsetOf outside fragmentOf startFragment
+  unfolding fragmentChecks fragmentFrame firstOf frameChecks rtpHolds unusedZero number takesType headerLength imageData offsetOf outside fragmentOf startFragment
   start-cut = record { well-formed = refl; same-id = refl; same-total = refl; same-bytes = refl }
 
   middle-cut : CutFrom whole (middle sequence)
-  unfolding fragmentChecks fragmentFrame firstOf frameChecks rtpHolds unusedZero number signed takesType headerOf imageData continuationOf offsetOf placeOf outside fragmentOf continuationFragment
+  unfolding fragmentChecks fragmentFrame firstOf frameChecks rtpHolds unusedZero number signed takesType headerLength imageData continuationOf offsetOf placeOf outside fragmentOf continuationFragment
   middle-cut = record { well-formed = refl; same-id = refl; same-total = refl; same-bytes = refl }
 
   last-cut : CutFrom whole (last sequence)
-  unfolding fragmentChecks fragmentFrame firstOf frameChecks rtpHolds unusedZero number signed takesType headerOf imageData continuationOf offsetOf placeOf outside fragmentOf continuationFragment
+  unfolding fragmentChecks fragmentFrame firstOf frameChecks rtpHolds unusedZero number signed takesType headerLength imageData continuationOf offsetOf placeOf outside fragmentOf continuationFragment
   last-cut = record { well-formed = refl; same-id = refl; same-total = refl; same-bytes = refl }
 
 forwards-taken : Taken whole opened forwards
-unfolding next stored outcome storeStatus storeChecks held hasRoom judging openedRules otherRules ofOpened sameStart startDiffers bytesDiffer conflictIn someBelow lesser openedFor clearedFor imageAfter marksAfter withStart pictureAfter splice fragmentChecks fragmentFrame firstOf frameChecks rtpHolds unusedZero number signed takesType headerOf imageData startOf noStart continuationOf offsetOf placeOf outside fragmentOf startFragment continuationFragment
+unfolding next stored outcome storeStatus storeChecks held hasRoom judging openedRules otherRules ofOpened sameStart startDiffers bytesDiffer conflictIn someBelow lesser openedFor clearedFor imageAfter marksAfter withStart pictureAfter splice fragmentChecks fragmentFrame firstOf frameChecks rtpHolds unusedZero number signed takesType headerLength imageData startOf noStart continuationOf offsetOf placeOf outside fragmentOf startFragment continuationFragment
 forwards-taken = (start-cut 30, (refl, (middle-cut 31, (last-cut 32, (middle-cut 31, tt)))))
 
 backwards-taken : Taken whole opened backwards
-unfolding next stored outcome storeStatus storeChecks held hasRoom judging openedRules otherRules ofOpened sameStart startDiffers bytesDiffer conflictIn someBelow lesser openedFor clearedFor imageAfter marksAfter withStart pictureAfter splice fragmentChecks fragmentFrame firstOf frameChecks rtpHolds unusedZero number signed takesType headerOf imageData startOf noStart continuationOf offsetOf placeOf outside fragmentOf startFragment continuationFragment
+unfolding next stored outcome storeStatus storeChecks held hasRoom judging openedRules otherRules ofOpened sameStart startDiffers bytesDiffer conflictIn someBelow lesser openedFor clearedFor imageAfter marksAfter withStart pictureAfter splice fragmentChecks fragmentFrame firstOf frameChecks rtpHolds unusedZero number signed takesType headerLength imageData startOf noStart continuationOf offsetOf placeOf outside fragmentOf startFragment continuationFragment
 backwards-taken = (last-cut 7, (start-cut 39, (refl, (middle-cut 2, (start-cut 39, tt)))))
 
 forwards-agree : Agreeing opened forwards
@@ -75,7 +75,7 @@ backwards-agree = record {
 }
 
 same-fragments : SameFragments forwards backwards
-unfolding number fragmentOf startFragment startOf continuationFragment placeOf continuationOf signed imageData headerOf
+unfolding number fragmentOf startFragment startOf continuationFragment placeOf continuationOf signed imageData headerLength
 same-fragments = (
   (inr (inl (record { same-type = refl; same-offset = refl; same-data = refl; same-start = refl })), (inr (inr (inl (record { same-type = refl; same-offset = refl; same-data = refl; same-start = refl }))), (inl (record { same-type = refl; same-offset = refl; same-data = refl; same-start = refl }), (inr (inr (inl (record { same-type = refl; same-offset = refl; same-data = refl; same-start = refl }))), tt)))),
   (inr (inr (inl (record { same-type = refl; same-offset = refl; same-data = refl; same-start = refl }))), (inl (record { same-type = refl; same-offset = refl; same-data = refl; same-start = refl }), (inr (inl (record { same-type = refl; same-offset = refl; same-data = refl; same-start = refl })), (inl (record { same-type = refl; same-offset = refl; same-data = refl; same-start = refl }), tt)))),

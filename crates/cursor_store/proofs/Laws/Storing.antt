@@ -1,24 +1,20 @@
 -- The call for starts and continuations in three steps: 17, the packet is read, the fragment is judged. Assumes nothing.
-use Prim.Native.Nat.{ℕ, _+_, _≤_}
+use Prim.Native.Nat.{ℕ}
 use mathlib.Core.Path.{_≡_, refl, sym, ap, _∙_}
 use mathlib.Core.Bool.{Bool, false≢true, true, false, not, cond}
 use mathlib.Core.List.{List}
-use native.Mathlib.Omega.{arith}
-use lib.ListN.{length, take, drop, length-take, length-drop}
+use lib.ListN.{length}
 use Rattle.wire.specs.declared.status.Status.{Status}
 use Rattle.wire.specs.declared.status.Status.the-variants as status
-use Rattle.cursor_fragment.specs.declared.Fragment.{Fragment}
-use Rattle.cursor_fragment.specs.declared.FragmentAnswer.the-variants as fragment
 use Rattle.cursor_packet.specs.Checks.{firstOf, accepted}
-use Rattle.cursor_fragment.specs.Fragment.{isStart, imageData, fragmentChecks, fragmentOf, fragmentStatus, dataOf, readFragment, DataInside}
+use Rattle.cursor_fragment.specs.Fragment.{isStart, fragmentChecks, fragmentOf, fragmentStatus, dataOf}
 use Rattle.cursor_packet.proofs.Laws.Checks.{first-append}
-use Rattle.cursor_fragment.proofs.Laws.Fragment.{checks-refuse, read-refused, read-accepted, starts-is, data-inside}
+use Rattle.cursor_fragment.proofs.Laws.Fragment.{checks-refuse}
 use Rattle.cursor_pointer.specs.declared.Pointer.{Pointer}
 use Rattle.cursor_picture.specs.declared.Picture.{Picture}
 use Rattle.cursor_picture.specs.Picture.{held}
-use Rattle.cursor_store.specs.declared.storing.StoreAnswer.the-variants.{Accepted, Refused}
 use Rattle.cursor_store.specs.Judging.{judging, SequenceIgnored}
-use Rattle.cursor_store.specs.Storing.{storeResult, openedFor, clearedFor, imageAfter, marksAfter, withStart, pictureAfter, pointerAfter, outcome, fragmentStored, storeChecks, storeStatus, stored, OldContinuationStored}
+use Rattle.cursor_store.specs.Storing.{openedFor, clearedFor, imageAfter, marksAfter, withStart, pictureAfter, pointerAfter, outcome, fragmentStored, storeChecks, storeStatus, stored, OldContinuationStored}
 use Rattle.cursor_store.proofs.Laws.Judging.{opened-same, sequence-ignored}
 
 pub store-status
@@ -37,9 +33,6 @@ stored-well p q packet image marks h e =
     ap (λ (s : Status). outcome s p q (fragmentOf packet) (dataOf packet) image marks) (store-status q packet image marks ∙ simp (h, e))
 
 -- a part that lies in the list has its length
-pub part-length : (at n : ℕ) (xs : List ℕ) → at + n ≤ length xs → length (take n (drop at xs)) ≡ n
-part-length at n xs h = simp (length-take, length-drop) (omega arith)
-
 pub old-continuation-stored : OldContinuationStored
 unfolding OldContinuationStored SequenceIgnored fragmentStored outcome openedFor clearedFor imageAfter marksAfter withStart pictureAfter pointerAfter
 old-continuation-stored n p q f ds image marks h e =

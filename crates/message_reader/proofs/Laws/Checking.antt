@@ -21,7 +21,7 @@ use Rattle.message_reader.specs.declared.Answer.the-variants as answer
 use Rattle.message_rules.specs.Rules.{entryOf, rolesOf, roleOf, foreign, needed, seen, lengthOk}
 use Rattle.message_rules.specs.Record.{fieldOf, withField, emptyOf}
 use Rattle.message_reader.specs.Reading.{typeAt, lengthAt, nextAt, Step, tlvAt, hasNeeded, isComplete, lastOf, tlvsFrom}
-use Rattle.message_reader.specs.Checking.{tlvIn, stepOf, notNeeded}
+use Rattle.message_reader.specs.Checking.{tlvIn, tlvStep, notNeeded}
 use Rattle.wire.proofs.Laws.Bool.{impossible, by-test}
 use Rattle.message_rules.proofs.Laws.Rules.{eight-columns, type-small, type-not-1, role-not-seen}
 use Rattle.message_rules.proofs.Laws.Record.{field-with, field-empty, command-with, command-empty}
@@ -86,12 +86,12 @@ module _ {c : ℕ} {m : Message} {row : List ℕ} (g : Entries c m row) where
       (marked-needed (fieldOf m t .present) (roleOf c t)
       ∙ ap (λ (i : ℕ). cond (eqb (roleOf i t) needed) (fieldOf m t .present) true) (sym (g .command)))
 
-  tlv-step : (s : List ℕ) (at : ℕ) → tlvAt s at m ≡ stepOf at m (tlvIn s at row)
+  tlv-step : (s : List ℕ) (at : ℕ) → tlvAt s at m ≡ tlvStep at m (tlvIn s at row)
   unfolding tlvAt tlvIn
   tlv-step s at =
       let t = typeAt s at in
       rw (← entry-foreign t, ← entry-seen t)
-      (tests (stepOf at m) (ltb (length s) (at + 3)) (ltb (length s) (nextAt s at)) (eqb (entryOf row t) foreign)
+      (tests (tlvStep at m) (ltb (length s) (at + 3)) (ltb (length s) (nextAt s at)) (eqb (entryOf row t) foreign)
       (not (lengthOk t (lengthAt s at))) (eqb (entryOf row t) seen) (tlv.Refused status.TlvTruncated) (tlv.Refused status.TlvTruncated)
       (tlv.Refused status.TlvUnexpected) (tlv.Refused status.TlvLength) (tlv.Refused status.TlvRepeated) (tlv.Right t (lengthAt s at)))
 
@@ -161,8 +161,8 @@ unfolding checked-start
 start-record s c row e = refl
 
 module _ {s : List ℕ} {c at : ℕ} {row : List ℕ} (g : Checked s c at row) where
-  pub at-step : (x : Tlv) → tlvIn s at row ≡ x → tlvAt s at (g .m) ≡ stepOf at (g .m) x
-  at-step x e = tlv-step (g .entries) s at ∙ ap (stepOf at (g .m)) e
+  pub at-step : (x : Tlv) → tlvIn s at row ≡ x → tlvAt s at (g .m) ≡ tlvStep at (g .m) x
+  at-step x e = tlv-step (g .entries) s at ∙ ap (tlvStep at (g .m)) e
 
   pub checked-refused : (st : Status) → at < length s → tlvIn s at row ≡ tlv.Refused st → answer.Refused st at ≡ Whole s c
   checked-refused st h e = tlvs-refused (g .k) s at (g .m) st at h (g .enough) (at-step (tlv.Refused st) e) ∙ g .rest

@@ -21,7 +21,7 @@ use Rattle.message_rules.specs.Record.{fieldOf, withField, emptyOf}
 use Rattle.message_reader.specs.Reading.{sizeIn, versionIn, commandIn, headerOf, typeAt, lengthAt, nextAt, valueAt, tlvAt}
 use Rattle.message_reader.specs.Reading.{Step, hasNeeded, isComplete, lastOf, goOn, tlvsFrom, afterHeader, readMessage}
 use Rattle.message_reader.specs.Checking.{verdictOf, IsAccepted}
-use Rattle.message_reader.specs.Theorems.{Headed, Taken, Reached, Fault, Refusal, Acceptance, RefusedExactly, AcceptedExactly}
+use Rattle.message_reader.specs.Theorems.{Headed, RightTlv, Reached, Fault, Refusal, Acceptance, RefusedExactly, AcceptedExactly}
 use Rattle.message_reader.specs.Reading as step
 use Rattle.message_reader.specs.Theorems as given
 use Rattle.wire.proofs.Laws.Bool.{impossible, by-test, not-both}
@@ -33,7 +33,7 @@ use Rattle.wire.proofs.Laws.Below.{below-all, all-below, one-below, one-fails}
 
 -- what an answer to a TLV says
 abbrev pub OfStep : List ℕ → ℕ → Message → Step → Type 0
-OfStep s at m (step.Known n m') = Taken s at m × (n ≡ nextAt s at) × (m' ≡ withField m (typeAt s at) (valueAt s at))
+OfStep s at m (step.Known n m') = RightTlv s at m × (n ≡ nextAt s at) × (m' ≡ withField m (typeAt s at) (valueAt s at))
 OfStep s at m (step.Refused st place) = Fault s at m st × (place ≡ at)
 
 pub of-step : (s : List ℕ) (at : ℕ) (m : Message) → OfStep s at m (tlvAt s at m)
@@ -55,7 +55,7 @@ of-step s at m =
     (λ f. (record { whole = whole; expected = own; fitting = fits; first = f }, refl, refl))))))
 
 pub tlv-taken
-    : (s : List ℕ) (at : ℕ) (m : Message) → Taken s at m
+    : (s : List ℕ) (at : ℕ) (m : Message) → RightTlv s at m
     → tlvAt s at m ≡ step.Known (nextAt s at) (withField m (typeAt s at) (valueAt s at))
 unfolding tlvAt
 tlv-taken s at m k =
@@ -121,7 +121,7 @@ clash e = impossible (cc)
 -- Where a message is accepted, the TLV at each place is right.
 abbrev Goes : ℕ → List ℕ → ℕ → Message → Type 0
 Goes k s at m =
-    Taken s at m × (j : ℕ) × (length s ≤ nextAt s at + j)
+    RightTlv s at m × (j : ℕ) × (length s ≤ nextAt s at + j)
     × (tlvsFrom j s (nextAt s at) (withField m (typeAt s at) (valueAt s at)) ≡ tlvsFrom k s at m)
 
 goes

@@ -6,13 +6,12 @@ use mathlib.Core.List.{List}
 use mathlib.Core.Logic.{_⊎_, inl, inr, ⊎-elim}
 use native.Mathlib.Omega.{arith}
 use borrow.Author.Tests.{ne-eqb}
-use lib.ListN.{length}
 use Rattle.message_rules.specs.declared.record.Field.{Field}
 use Rattle.message_rules.specs.declared.record.Message.{Message}
 use Rattle.message_rules.specs.Rules.{roleOf, foreign, knownCommand}
 use Rattle.message_rules.specs.Record.{fieldOf, withField, emptyOf, sizeTo}
 use Rattle.message_reader.specs.Reading.{commandIn, typeAt, nextAt, valueAt}
-use Rattle.message_reader.specs.Theorems.{Taken, Reached, Placed, Before, AcceptedExactly, AcceptedWellFormed}
+use Rattle.message_reader.specs.Theorems.{RightTlv, Reached, Placed, Before, AcceptedExactly, AcceptedWellFormed}
 use Rattle.message_reader.specs.Theorems as given
 use Rattle.wire.proofs.Laws.Bool.{not-both}
 use Rattle.message_rules.proofs.Laws.Rules.{type-small, type-not-1}
@@ -41,7 +40,7 @@ begin s =
       apart = λ u v n p q. none (commandIn s) u p;
     }
 
-module _ (s : List ℕ) (at : ℕ) (m : Message) (i : Sound s at m) (k : Taken s at m) where
+module _ (s : List ℕ) (at : ℕ) (m : Message) (i : Sound s at m) (k : RightTlv s at m) where
   small : typeAt s at < 8
   small = type-small (m .command) (typeAt s at) (ne-eqb (roleOf (m .command) (typeAt s at)) foreign (k .expected))
 

@@ -1,9 +1,9 @@
 -- The TLVs of what is written, from left to right, are taken one by one, up to the record of what is written. Assumes nothing.
-use Prim.Native.Nat.{ℕ, zero, suc, _+_, _-_, _≤_, _<_}
+use Prim.Native.Nat.{ℕ, zero, suc, _+_, _≤_, _<_}
 use mathlib.Core.Path.{_≡_, refl, sym, ap, _∙_, subst}
 use mathlib.Core.Bool.{true, false, cond, not}
 use mathlib.Core.List.{List, [], _++_, append-nil, append-assoc}
-use mathlib.Core.Logic.{_⊎_, ⊎-elim}
+use mathlib.Core.Logic.{⊎-elim}
 use native.Mathlib.Omega.{arith}
 use native.Mathlib.Decide.{decLt}
 use native.Mathlib.Nat.{eq-or-lt-of-le}
@@ -23,7 +23,7 @@ use Rattle.message_rules.specs.Rules.{roleOf, foreign, needed}
 use Rattle.message_rules.specs.Record.{absent, fieldOf, valueOf, withField, emptyOf, sizeTo}
 use Rattle.message_reader.specs.Reading.{commandIn, typeAt, lengthAt, nextAt, valueAt, readMessage}
 use Rattle.message_writer.specs.Writing.{writable, tlvBytes, bodyTo, headBytes, messageOf, writeAnswer, output}
-use Rattle.message_reader.specs.Theorems.{Headed, Taken, Reached, AcceptedExactly}
+use Rattle.message_reader.specs.Theorems.{Headed, RightTlv, Reached, AcceptedExactly}
 use Rattle.message_writer.specs.Theorems.{SameMessage, ReadsBack}
 use Rattle.message_reader.specs.Theorems as given
 use Rattle.wire.proofs.Laws.Bool.{either, by-test}
@@ -174,7 +174,7 @@ module _ (s : List ℕ) (m : Message) (w : writable (length s) m ≡ true) where
         ∙ ap (take (f .len)) (drop-append-add (front s m t) (tlvBytes s t f ++ split .0) 3)
         ∙ take-at v (split .0) (f .len) (length-take-le (f .len) (drop (f .at) s) room)
 
-    tlv-taken : Taken x (sizeTo m t) (placedTo m t)
+    tlv-taken : RightTlv x (sizeTo m t) (placedTo m t)
     tlv-taken =
         let ok = ok-below s m w t h in
         record {

@@ -4,7 +4,7 @@ use Prim.Native.Nat.{ℕ, suc, _+_, _-_, _≤_, _<_}
 use mathlib.Core.Path.{_≡_, refl, sym, ap, _∙_, subst}
 use mathlib.Core.Bool.{true, false}
 use mathlib.Core.List.{List, _++_, append-nil, append-assoc}
-use mathlib.Core.Logic.{_⊎_, ⊎-elim}
+use mathlib.Core.Logic.{⊎-elim}
 use native.Mathlib.Omega.{arith}
 use native.Mathlib.Nat.{eq-or-lt-of-le}
 use borrow.Author.Tests.{le-leb, ne-eqb}
@@ -20,7 +20,7 @@ use Rattle.message_rules.specs.Rules.{roleOf, foreign, needed}
 use Rattle.message_rules.specs.Record.{fieldOf, withField, sizeTo}
 use Rattle.message_reader.specs.Reading.{commandIn, typeAt, lengthAt, nextAt, valueAt, readMessage}
 use Rattle.message_writer.specs.Writing.{fieldOk, writable, tlvBytes, bodyTo, headBytes, messageOf, output}
-use Rattle.message_reader.specs.Theorems.{Headed, Taken, Reached, Bytes, WellFormed, AcceptedExactly, AcceptedWellFormed}
+use Rattle.message_reader.specs.Theorems.{Headed, RightTlv, Reached, Bytes, WellFormed, AcceptedExactly, AcceptedWellFormed}
 use Rattle.message_writer.specs.Theorems.{Rising, WritesBack}
 use Rattle.message_reader.specs.Theorems as given
 use Rattle.wire.proofs.Laws.Bool.{either, not-both}
@@ -91,7 +91,7 @@ module _ (s : List ℕ) (b : Bytes s) where
         z,
       )
 
-  module _ (at : ℕ) (m : Message) (r : Reached s at m) (k : Taken s at m) (up : Rising (withField m (typeAt s at) (valueAt s at))) where
+  module _ (at : ℕ) (m : Message) (r : Reached s at m) (k : RightTlv s at m) (up : Rising (withField m (typeAt s at) (valueAt s at))) where
     abbrev new : Message
     new = withField m (typeAt s at) (valueAt s at)
 

@@ -1,4 +1,4 @@
--- Laws of `splice`. Assumes nothing.
+-- Laws of `part` and `splice`. Assumes nothing.
 use Prim.Native.Nat.{ℕ, suc, _+_, _-_, _≤_, _<_}
 use mathlib.Core.Path.{_≡_, refl, sym, ap, _∙_}
 use mathlib.Core.Bool.{cond, _&&_}
@@ -10,7 +10,10 @@ use borrow.Rule.Slice.PartMut.{putMid}
 use lib.Dec.{leb, ltb}
 use lib.ListN.{length, getD, take, drop, set, take-append-drop, length-append, length-take, length-drop, List·getD-append}
 use lib.Seq.{length-take-le, lt-length-set, take-set-le, drop-set-lt, drop-cons, getD-set-same, getD-take, getD-drop, getD-append-add, drop-drop, take-at, drop-at, ext-getD}
-use Rattle.wire.specs.Splice.{splice}
+use Rattle.wire.specs.Splice.{part, splice}
+
+pub length-part : (at n : ℕ) (xs : List ℕ) → at + n ≤ length xs → length (part at n xs) ≡ n
+length-part at n xs h = simp (length-take, length-drop) (omega arith)
 
 pub length-splice : (at : ℕ) (ds xs : List ℕ) → at + length ds ≤ length xs → length (splice at ds xs) ≡ length xs
 unfolding splice

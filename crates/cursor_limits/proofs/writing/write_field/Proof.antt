@@ -5,7 +5,8 @@ use borrow.Author.Needs.{needs}
 use denote.Ref.{now}
 use lib.ListN.{length, set, length-set}
 use Rattle.text.specs.Abnf.{space}
-use Rattle.cursor_limits.proofs.Laws.Writing.{length-field, length-part, field-written}
+use Rattle.wire.proofs.Laws.Splice.{length-part}
+use Rattle.cursor_limits.proofs.Laws.Writing.{length-field, field-written}
 use Rattle.cursor_limits.proofs.writing.write_field.Statement.{statement}
 use Rattle.cursor_limits.proofs.writing.write_field.Tie as tie
 

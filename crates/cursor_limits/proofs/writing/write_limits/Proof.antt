@@ -6,10 +6,10 @@ use borrow.Author.Needs.{needs}
 use denote.Ref.{now}
 use lib.ListN.{length, drop}
 use Rattle.wire.specs.Splice.{splice}
-use Rattle.wire.proofs.Laws.Splice.{splice-none}
+use Rattle.wire.proofs.Laws.Splice.{length-part, splice-none}
 use Rattle.wire.proofs.Laws.Laid.{length-laid}
 use Rattle.cursor_limits.specs.Writing.{spellLimits}
-use Rattle.cursor_limits.proofs.Laws.Writing.{length-limits, length-part, spellFields, room-back, field-back, limits-written}
+use Rattle.cursor_limits.proofs.Laws.Writing.{length-limits, spellFields, room-back, field-back, limits-written}
 use Rattle.cursor_limits.proofs.writing.write_limits.Statement.{statement}
 use Rattle.cursor_limits.proofs.writing.write_limits.Tie as tie
 

@@ -7,9 +7,8 @@ use borrow.Author.Needs.{needs}
 use lib.ListN.{replicate, length-replicate}
 use borrow.Rule.Slice.PartMut.{putMid}
 use Rattle.wire.specs.Splice.{splice}
-use Rattle.wire.proofs.Laws.Splice.{part-back}
+use Rattle.wire.proofs.Laws.Splice.{length-part, part-back}
 use Rattle.cursor_store.specs.Storing.{openedFor, clearedFor}
-use Rattle.cursor_store.proofs.Laws.Storing.{part-length}
 use Rattle.cursor_store.proofs.storing.open_for.Statement.{statement}
 use Rattle.cursor_store.proofs.storing.open_for.Tie as tie
 
@@ -52,7 +51,7 @@ returns-2 c =
     let o = sym (i .before .of-opened .ensures) ∙ i .if1 .left in
     let e : n - 0 ≡ n = omega arith in
     let m : putMid 0 (n - 0) ms (f .fill .last .0) ≡ splice 0 (replicate n 0) ms
-    = rw (f .fill .ensures, e, part-length 0 n ms (omega (arith, s .pre))) (part-back 0 n ms (replicate n 0) (length-replicate n 0)) in
+    = rw (f .fill .ensures, e, length-part 0 n ms (omega (arith, s .pre))) (part-back 0 n ms (replicate n 0) (length-replicate n 0)) in
     (simp o (c .opened-by .ensures), simp o m)
 
 pub open-for-spec : {M : Type 1} → statement M
