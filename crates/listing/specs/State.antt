@@ -14,11 +14,18 @@ pub record Within (buf out : List ℕ) (st : State) : Type 0 where
   pub large : 65536 ≤ length buf
   pub fits : st .used ≤ length out
 
+-- the verdicts that lines give: the recording is whole; a message of it was refused
+abbrev pub wholeVerdict : ℕ
+wholeVerdict = 0
+
+abbrev pub refusedVerdict : ℕ
+refusedVerdict = 1
+
 -- after a line, with `used` bytes of lines: on after a message, and no further after a refusal or the end
-abbrev pub after : State → Line → ℕ → State
-after st (line.Message c n) used =
-    record { from = st .from + n; to = st .to; place = (st .place + n) % 2 ^ 64; used = used; ended = st .ended; going = st .going }
-after st (line.Refused status) used =
-    record { from = st .from; to = st .to; place = st .place; used = used; ended = st .ended; going = false }
-after st line.End used =
-    record { from = st .from; to = st .to; place = st .place; used = used; ended = st .ended; going = false }
+abbrev pub stateAfter : State → Line → ℕ → State
+stateAfter st (line.Message c n) used =
+    record { from = st .from + n; to = st .to; place = (st .place + n) % 2 ^ 64; used = used; ended = st .ended; going = st .going; verdict = st .verdict }
+stateAfter st (line.Refused status) used =
+    record { from = st .from; to = st .to; place = st .place; used = used; ended = st .ended; going = false; verdict = refusedVerdict }
+stateAfter st line.End used =
+    record { from = st .from; to = st .to; place = st .place; used = used; ended = st .ended; going = false; verdict = wholeVerdict }

@@ -64,7 +64,7 @@ fn put_end(out: &mut [u8], at: usize, place: u64) -> usize
 }
 
 // Puts the line of `place` from `at` on, and answers the place after it. No line is longer than 64 bytes.
-pub fn put_line(out: &mut [u8], at: usize, place: u64, line: Line) -> usize
+pub(crate) fn put_line(out: &mut [u8], at: usize, place: u64, line: Line) -> usize
     requires { ⌜ at + 64 ≤ length (now out) ⌝ }
     ensures { λ r. ⌜ Put (now (out .entry)) at (textOf place line) r (now (out .exit)) ⌝ }
     ensures { λ r. ⌜ r ≤ at + 64 ⌝ }

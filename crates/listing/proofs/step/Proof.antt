@@ -58,11 +58,23 @@ same-length-5 c = search needs
 returns-3 : tie.Need-returns-3
 returns-3 c = search needs
 
+write-lines-requires-2 : tie.Need-write-lines-requires-2
+write-lines-requires-2 c κs = search needs
+
+same-length-6 : tie.Need-same-length-6
+same-length-6 c = search needs
+
+same-length-7 : tie.Need-same-length-7
+same-length-7 c = search needs
+
+returns-4 : tie.Need-returns-4
+returns-4 c = search needs
+
 read-more-requires : tie.Need-read-more-requires
 unfolding BoundedNeed
 read-more-requires c κs =
-    let n = c .before .before .needed in
-    let k = c .before .before .before .before .before .before .before .before .before in
+    let n = c .before .before .before .before .needed in
+    let k = c .before .before .before .before .before .before .before .before .before .before .before in
     let a = k .before .before .args in
     let l = a .state .to - a .state .from in
     let b
@@ -70,11 +82,11 @@ read-more-requires c κs =
     (part-bytes (now (a .buf)) (a .state .from) l (λ i. omega (arith, k .slice-known .given i))) in
     ((omega arith, omega arith), omega (arith, n .ensures, b))
 
-same-length-6 : tie.Need-same-length-6
-same-length-6 c = search needs
+same-length-8 : tie.Need-same-length-8
+same-length-8 c = search needs
 
-returns-4 : tie.Need-returns-4
-returns-4 c = search needs
+returns-5 : tie.Need-returns-5
+returns-5 c = search needs
 
 pub step-spec : {M : Type 1} → statement M
 step-spec =
@@ -96,6 +108,10 @@ step-spec =
     same-length-4
     same-length-5
     returns-3
-    read-more-requires
+    write-lines-requires-2
     same-length-6
-    returns-4)
+    same-length-7
+    returns-4
+    read-more-requires
+    same-length-8
+    returns-5)
