@@ -5,6 +5,7 @@
 //!   crate's `src/`, a wrong program of `must-fail/` or `edits/`, an export, a file.
 //! - Each crate of crates.txt stands in README's table, each export in the header and in HOSTS,
 //!   each refusal 0 to 18 in REFUSALS.
+//! - No public function has a `requires`, as the documents say.
 //! - No line of a document is too long to read, and no cell of a table is a paragraph.
 //!
 //! What a name in backticks may be is said in [`names`]; what the repository has, in [`repository`].
@@ -42,6 +43,7 @@ pub fn faults(root: &Path) -> Result<Vec<String>, String> {
     faults.extend(exports_missing(&repository, "include/ashlarsilk.h", &header));
     faults.extend(exports_missing(&repository, "docs/HOSTS.md", &hosts));
     faults.extend(refusals_missing(&refusals));
+    faults.extend(repository.asking.iter().map(|name| format!("`{name}` has a requires")));
     for document in repository::documents(root)? {
         faults.extend(layout::faults(&document, &repository::text(root, &document)?));
     }

@@ -17,15 +17,13 @@ use crate::repository::{Crate, Repository};
 
 /// Single words in backticks that are no names of the repository: words of the languages and tools,
 /// and of the protocol.
-const WORDS: [&str; 22] = [
-    "requires", "ensures", "match", "while", "let", "else", "mod", "memmove", "memcpy", "rt", "cargo",
-    "cc", "stdout", "none", "full", "end", "microsoft_cursor", "same", "image", "marks", "SEEN", "c",
-];
+const WORDS: &[&str] = &["requires", "rt", "cargo", "cc", "NONE"];
 
 /// The spans of one line that are names and are not found. The crates that the line names decide for
 /// names that say no crate.
 pub fn not_found<'a>(repository: &Repository, spans: &'a [String]) -> Vec<&'a str> {
-    let named: Vec<&Crate> = spans.iter().filter_map(|span| named_crate(repository, span)).collect();
+    let named: Vec<&Crate> =
+        spans.iter().filter_map(|span| named_crate(repository, span)).collect();
     let found = |span: &&str| !is_found(repository, &named, span);
     spans.iter().map(String::as_str).filter(found).collect()
 }
@@ -39,10 +37,13 @@ fn is_found(repository: &Repository, named: &[&Crate], span: &str) -> bool {
     let words: Vec<&str> = span.split(' ').collect();
     match words[..] {
         [name, place] if repository.crates.contains_key(name) => {
-            defines(&repository.crates[name], place) || repository.crates[name].edits.contains(place)
+            defines(&repository.crates[name], place)
+                || repository.crates[name].edits.contains(place)
         }
         [name, place] if is_name(name) && is_file(place) => false,
-        [word] if word.contains("::") => grouped(word).iter().all(|path| has_item(repository, path)),
+        [word] if word.contains("::") => {
+            grouped(word).iter().all(|path| has_item(repository, path))
+        }
         [word] if word.contains('/') && is_plain(word) => {
             word.starts_with("target/") || repository.has_path(word)
         }
@@ -92,11 +93,9 @@ fn has_item(repository: &Repository, path: &str) -> bool {
         (Some(found), [module, kind, item]) if found.modules.contains_key(*module) => {
             found.modules[*module].contains(&format!("{kind}::{item}"))
         }
-        (Some(found), [item]) => {
-            ["lib", "main"].iter().any(|root| {
-                found.modules.get(*root).is_some_and(|items| items.contains(*item))
-            })
-        }
+        (Some(found), [item]) => ["lib", "main"]
+            .iter()
+            .any(|root| found.modules.get(*root).is_some_and(|items| items.contains(*item))),
         (Some(found), [kind, item]) => {
             let item = format!("{kind}::{item}");
             found.modules.get("lib").is_some_and(|items| items.contains(&item))
@@ -121,13 +120,15 @@ fn is_known(repository: &Repository, word: &str) -> bool {
     repository.crates.keys().any(|name| crate::repository::matches(word, name))
         || repository.exports.contains(word)
         || repository.crates.values().any(in_crate)
-        || repository.has_path(word)
+        || word.contains(char::is_lowercase) && repository.has_path(word)
 }
 
 /// Whether the launcher has such a command.
 fn is_command(repository: &Repository, command: &str) -> bool {
     let launcher = crate::repository::text(&repository.root, "ashlarsilk").unwrap_or_default();
-    let arm = |line: &str| line.trim().split(')').next().unwrap_or("").split('|').any(|word| word.trim() == command);
+    let arm = |line: &str| {
+        line.trim().split(')').next().unwrap_or("").split('|').any(|word| word.trim() == command)
+    };
     launcher.lines().any(arm)
 }
 
@@ -141,7 +142,11 @@ fn is_plain(word: &str) -> bool {
 }
 
 fn is_dotted(word: &str) -> bool {
-    word.contains('.') && !word.contains("..") && is_plain(word) && !word.contains('/') && starts_as_name(word)
+    word.contains('.')
+        && !word.contains("..")
+        && is_plain(word)
+        && !word.contains('/')
+        && starts_as_name(word)
 }
 
 fn is_name(word: &str) -> bool {
@@ -149,6 +154,7 @@ fn is_name(word: &str) -> bool {
 }
 
 fn starts_as_name(word: &str) -> bool {
-    let hexadecimal = word.len() == 4 && word.chars().all(|c| c.is_ascii_digit() || ('A'..='F').contains(&c));
+    let hexadecimal =
+        word.len() == 4 && word.chars().all(|c| c.is_ascii_digit() || ('A'..='F').contains(&c));
     word.starts_with(|c: char| c.is_alphabetic()) && !hexadecimal
 }

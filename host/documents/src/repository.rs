@@ -25,6 +25,8 @@ pub struct Repository {
     pub root: PathBuf,
     pub crates: BTreeMap<String, Crate>,
     pub exports: BTreeSet<String>,
+    /// Public functions that ask something of their input, each with its crate and module.
+    pub asking: BTreeSet<String>,
 }
 
 impl Repository {
@@ -32,6 +34,7 @@ impl Repository {
     pub fn read(root: &Path) -> Result<Repository, String> {
         let mut crates = BTreeMap::new();
         let mut exports = BTreeSet::new();
+        let mut asking = BTreeSet::new();
         for line in text(root, "crates.txt")?.lines() {
             let Some((name, _)) = line.split_once(':').filter(|_| !line.starts_with('#')) else {
                 continue;
@@ -46,6 +49,8 @@ impl Repository {
             }
             for (file, text) in files(&folder.join("src"), "rt")? {
                 exports.extend(exported(&text));
+                asking
+                    .extend(asks(&text).into_iter().map(|item| format!("{name}::{file}::{item}")));
                 found.modules.insert(file, items(&text));
             }
             for folder in [folder.join("must-fail"), root.join("edits").join(name)] {
@@ -53,7 +58,7 @@ impl Repository {
             }
             crates.insert(name.to_string(), found);
         }
-        Ok(Repository { root: root.to_path_buf(), crates, exports })
+        Ok(Repository { root: root.to_path_buf(), crates, exports, asking })
     }
 
     /// Whether there is such a file or folder. A star, or a word in capitals such as NAME, stands
@@ -94,7 +99,8 @@ pub fn text(root: &Path, file: &str) -> Result<String, String> {
 /// README and the files of docs/.
 pub fn documents(root: &Path) -> Result<Vec<String>, String> {
     let mut found = vec!["README.md".to_string()];
-    found.extend(files(&root.join("docs"), "md")?.into_keys().map(|name| format!("docs/{name}.md")));
+    found
+        .extend(files(&root.join("docs"), "md")?.into_keys().map(|name| format!("docs/{name}.md")));
     Ok(found)
 }
 
@@ -154,8 +160,10 @@ fn items(text: &str) -> BTreeSet<String> {
     let mut within = String::new();
     for line in text.lines().filter(|line| !line.trim_start().starts_with("//")) {
         let passed_on = line.starts_with("pub use ") || line.starts_with("pub mod ");
-        let words: Vec<&str> =
-            words(line).into_iter().filter(|word| !["pub", "crate", "extern", "C"].contains(word)).collect();
+        let words: Vec<&str> = words(line)
+            .into_iter()
+            .filter(|word| !["pub", "crate", "extern", "C"].contains(word))
+            .collect();
         let indent = line.len() - line.trim_start().len();
         match words[..] {
             _ if passed_on => {
@@ -188,4 +196,24 @@ fn items(text: &str) -> BTreeSet<String> {
 fn exported(text: &str) -> Vec<String> {
     let lines = text.lines().filter_map(|line| line.strip_prefix("pub extern \"C\" fn "));
     lines.filter_map(|line| words(line).first().map(|name| name.to_string())).collect()
+}
+
+/// The public functions of a source that have a `requires`.
+pub fn asks(text: &str) -> Vec<String> {
+    let mut found = Vec::new();
+    let mut lines = text.lines();
+    while let Some(line) = lines.next() {
+        let front = line.trim_start();
+        if !front.starts_with("pub fn ") && !front.starts_with("pub extern \"C\" fn ") {
+            continue;
+        }
+        let name = words(front).into_iter().skip_while(|word| *word != "fn").nth(1);
+        let clause = |line: &str| line.starts_with("requires") || line.starts_with("ensures");
+        let head = std::iter::once(line).chain(lines.by_ref());
+        let mut head = head.map(str::trim).take_while(|line| clause(line) || !line.ends_with('{'));
+        if head.any(|line| line.starts_with("requires")) {
+            found.push(name.unwrap_or_default().to_string());
+        }
+    }
+    found
 }

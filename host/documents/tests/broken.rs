@@ -58,6 +58,13 @@ fn what_is_missing() {
 }
 
 #[test]
+fn a_public_function_that_asks() {
+    let source = "pub fn a(x: u8) -> u8 {\n    x\n}\npub fn b(x: u8) -> u8\n    requires { x }\n    ensures { x }\n{\n}\n\
+                  pub(crate) fn c(x: u8)\n    requires { x }\n{\n}\npub fn d(x: u8)\n    ensures { x }\n{\n}\n";
+    assert_eq!(repository::asks(source), ["b"]);
+}
+
+#[test]
 fn long_lines_and_cells() {
     let words = "word ".repeat(70);
     assert_eq!(layout::faults("a", &words).len(), 1);
