@@ -1,4 +1,8 @@
 -- The tests are those of the definition. Assumes nothing.
+use Prim.Native.Nat.{_-_}
+use mathlib.Core.Path.{_≡_}
+use mathlib.Core.Bool.{false}
+use lib.Dec.{leb}
 use borrow.Author.Tests.{eq-eqb, ne-eqb, le-leb, lt-leb, not-true, not-false}
 use Rattle.message_writer.specs.Writing.{fieldOk}
 use borrow.Author.Needs.{needs}
@@ -58,13 +62,15 @@ returns-4 c =
     let role = c .before .before .before .before .before .before .before .before .role in
     let if1 = c .before .before .before .before .before .if1 in
     let if2 = c .before .before .before .before .if2 in
+    let n = c .before .before .before .before .before .before .before .before .before .args .n in
+    let past : leb (field-of .result .len) (n - field-of .result .at) ≡ false = lt-leb _ _ (c .if4 .taken) in
     simp (
       ← field-of .ensures,
       ← role .ensures,
       not-false (field-of .result .present) (if1 .left),
       ne-eqb _ _ (if2 .left),
       le-leb _ _ (c .before .if3 .left),
-      lt-leb _ _ (c .if4 .taken),
+      past,
     )
 
 length-ok-requires : tie.Need-length-ok-requires

@@ -1,6 +1,10 @@
 -- The fields are read in their order; the first that is no number refuses. Assumes nothing.
+use mathlib.Core.Path.{_≡_, sym, _∙_}
+use denote.Ref.{now}
 use borrow.Author.Needs.{needs}
-use Rattle.cursor_limits.specs.Reading.{readLimits}
+use Rattle.text.specs.declared.hex.Digits.the-variants as digits
+use Rattle.wire.specs.Splice.{part}
+use Rattle.cursor_limits.specs.Reading.{readField, readLimits}
 use Rattle.cursor_limits.proofs.reading.read_limits.Statement.{statement}
 use Rattle.cursor_limits.proofs.reading.read_limits.Tie as tie
 
@@ -8,7 +12,9 @@ returns : tie.Need-returns
 unfolding readLimits
 returns c =
     let t = c .before in
-    simp (c .not-grammar .ensures, ← t .before .before .read-field .ensures, t .enum-told .given .1)
+    let a = t .before .before .before .before .before .args in
+    let width : readField (part 4 5 (now (a .bytes))) ≡ digits.NotHexadecimal = sym (t .before .before .read-field .ensures) ∙ t .enum-told .given .1 in
+    simp (c .not-grammar .ensures, width)
 
 returns-2 : tie.Need-returns-2
 unfolding readLimits

@@ -1,5 +1,6 @@
 -- One test for each of the definition's. Assumes nothing.
-use mathlib.Core.Path.{sym, _∙_}
+use mathlib.Core.Path.{_≡_, sym, _∙_}
+use mathlib.Core.Bool.{true}
 use lib.ListN.{length}
 use denote.Ref.{now}
 use borrow.Author.Tests.{not-true, not-false}
@@ -34,7 +35,9 @@ returns-2 c =
     let f = c .before in
     let s = f .before .before in
     let o = s .before in
-    simp (sym (o .before .before .is-held .ensures) ∙ not-false _ (o .before .if1 .left), o .if2 .taken, s .if3 .taken, sym (f .all-filled .ensures) ∙ c .if4 .taken)
+    let h = o .before .before in
+    let seen : h .before .before .before .args .picture .seen ≡ true = s .if3 .taken in
+    simp (sym (h .is-held .ensures) ∙ not-false _ (o .before .if1 .left), o .if2 .taken, seen, sym (f .all-filled .ensures) ∙ c .if4 .taken)
 
 returns-3 : tie.Need-returns-3
 unfolding completeness

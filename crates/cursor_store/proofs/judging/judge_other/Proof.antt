@@ -2,6 +2,7 @@
 use mathlib.Core.Path.{_≡_, sym, _∙_}
 use mathlib.Core.Bool.{true, false}
 use borrow.Author.Needs.{needs}
+use Rattle.wire.specs.declared.status.Status.the-variants as status
 use Rattle.cursor_packet.specs.Checks.{firstOf}
 use Rattle.cursor_store.specs.Judging.{opens, otherRules}
 use Rattle.cursor_store.proofs.judging.judge_other.Statement.{statement}
@@ -15,7 +16,8 @@ unfolding firstOf otherRules
 returns c =
     let a = c .before .before .args in
     let newer : opens (a .picture) (a .fragment) ≡ true = sym (c .before .newer .ensures) ∙ c .if1 .taken in
-    simp newer
+    let accepted : status.Accepted ≡ firstOf (otherRules (a .picture) (a .fragment)) = simp newer in
+    accepted
 
 returns-2 : tie.Need-returns-2
 unfolding firstOf otherRules

@@ -27,7 +27,7 @@ same-length-2 c = search needs
 
 returns : tie.Need-returns
 unfolding fragmentAssembled assembledAs
-returns c = let n = c .before in simp (← n .before .judge .ensures, ← n .number .ensures, ne-eqb _ _ (c .if1 .taken))
+returns c = let n = c .before in simp (← n .before .judge .ensures, ← n .number .ensures, ne-eqb _ 0 (c .if1 .taken))
 
 open-for-requires : tie.Need-open-for-requires
 open-for-requires c κs =
