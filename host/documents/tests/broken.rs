@@ -33,7 +33,7 @@ fn a_broken_name_of_each_kind() {
         (promises, "`Shown.each-accepted`", "`Shown.accepted`"),
         (promises, "`OpenedAs`", "`OpenAs`"),
         (promises, "`ashlarsilk_limits_read`", "`ashlarsilk_limits_reads`"),
-        (promises, "`decimal_for_hex`", "`decimal_for_octal`"),
+        (promises, "`text decimal_for_hex`", "`text decimal_for_octal`"),
         (promises, "`./ashlarsilk edits`", "`./ashlarsilk edit`"),
         ("README.md", "`host/compare`", "`host/comparison`"),
         ("README.md", "`crates/NAME/specs`", "`crates/NAME/definitions`"),
