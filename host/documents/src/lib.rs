@@ -1,6 +1,6 @@
 //! Holds the documents to the code.
 //!
-//! - Each name in backticks of README, PROMISES, DECISIONS, FOR-TESTERS and MEASURED is found where it says: a crate, a
+//! - Each name in backticks of the documents in [`NAMING`] is found where it says: a crate, a
 //!   definition or a theorem of a crate's `specs/`, a field of a record, a function or a type of a
 //!   crate's `src/`, a wrong program of `must-fail/` or `edits/`, an export, a file.
 //! - Each crate of crates.txt stands in README's table, each export in the header and in HOSTS,
@@ -28,7 +28,7 @@ pub const NAMING: [&str; 5] = [
     "docs/MEASURED.md",
 ];
 
-/// A document read, and what is wrong with it and with the others, a line each.
+/// What is wrong with the documents of the repository, a line each.
 pub fn faults(root: &Path) -> Result<Vec<String>, String> {
     let repository = Repository::read(root)?;
     let mut faults = Vec::new();

@@ -6,9 +6,9 @@
 //! | crate File, crate File.name | `wire Sequence.isNewer` | that file of the crate's specs |
 //! | crate Laws.File | `wire Laws.Below` | that file of the crate's laws |
 //! | File.name, Record.field | `Sequence.isNewer` | a crate that the same line names, else any |
-//! | crate::module::item | `wire::sequence::newer` | that module of the crate |
+//! | crate::module::item, crate::{a, b} | `wire::sequence::newer` | that module of the crate |
 //! | module::item, Type::item | `Session::fresh` | any crate |
-//! | path | `crates/wire/src` | the file or the folder; what is built, below `target/`, is passed over |
+//! | path | `crates/wire/src` | the file or the folder; not below `target/`, where it is built |
 //! | a single word | `DemandThree`, `decimal_for_hex` | any of the above |
 //!
 //! Everything else is text of its own: a command, bytes, a piece of code.
@@ -34,6 +34,9 @@ fn named_crate<'a>(repository: &'a Repository, span: &str) -> Option<&'a Crate> 
 }
 
 fn is_found(repository: &Repository, named: &[&Crate], span: &str) -> bool {
+    if is_path_of_code(span) {
+        return grouped(span).iter().all(|path| has_item(repository, path));
+    }
     let words: Vec<&str> = span.split(' ').collect();
     match words[..] {
         [name, place] if repository.crates.contains_key(name) => {
@@ -41,9 +44,6 @@ fn is_found(repository: &Repository, named: &[&Crate], span: &str) -> bool {
                 || repository.crates[name].edits.contains(place)
         }
         [name, place] if is_name(name) && is_file(place) => false,
-        [word] if word.contains("::") => {
-            grouped(word).iter().all(|path| has_item(repository, path))
-        }
         [word] if word.contains('/') && is_plain(word) => {
             word.starts_with("target/") || repository.has_path(word)
         }
@@ -135,6 +135,11 @@ fn is_command(repository: &Repository, command: &str) -> bool {
 /// Whether a word is as `File` or `File.name` is written.
 fn is_file(word: &str) -> bool {
     word.starts_with(|c: char| c.is_uppercase()) && (is_name(word) || is_dotted(word))
+}
+
+/// Whether a span is as `a::b` or `a::{b, c}` is written.
+fn is_path_of_code(span: &str) -> bool {
+    span.contains("::") && span.chars().all(|c| c.is_alphanumeric() || "_:{}, ".contains(c))
 }
 
 fn is_plain(word: &str) -> bool {

@@ -30,6 +30,11 @@ fn a_broken_name_of_each_kind() {
         (promises, "`wire Sequence.isNewer`", "`wire Order.isNewer`"),
         (promises, "`wire::sequence::newer`", "`wire::sequence::older`"),
         (promises, "`wire::sequence::newer`", "`wire::order::newer`"),
+        (
+            promises,
+            "`wire::signed::{signed16, unsigned16,",
+            "`wire::signed::{signed16, unsigned17,",
+        ),
         (promises, "`Shown.each-accepted`", "`Shown.accepted`"),
         (promises, "`OpenedAs`", "`OpenAs`"),
         (promises, "`ashlarsilk_limits_read`", "`ashlarsilk_limits_reads`"),
@@ -41,7 +46,7 @@ fn a_broken_name_of_each_kind() {
     ] {
         let faults = broken(document, old, new);
         assert_eq!(faults.len(), 1, "{new}: {faults:?}");
-        assert!(faults[0].contains(new), "{faults:?}");
+        assert!(faults[0].contains(new), "{new}: {faults:?}");
     }
 }
 
@@ -59,8 +64,10 @@ fn what_is_missing() {
 
 #[test]
 fn a_public_function_that_asks() {
-    let source = "pub fn a(x: u8) -> u8 {\n    x\n}\npub fn b(x: u8) -> u8\n    requires { x }\n    ensures { x }\n{\n}\n\
-                  pub(crate) fn c(x: u8)\n    requires { x }\n{\n}\npub fn d(x: u8)\n    ensures { x }\n{\n}\n";
+    let source = "pub fn a(x: u8) -> u8 {\n    x\n}\n\
+                  pub fn b(x: u8) -> u8\n    requires { x }\n    ensures { x }\n{\n}\n\
+                  pub(crate) fn c(x: u8)\n    requires { x }\n{\n}\n\
+                  pub fn d(x: u8)\n    ensures { x }\n{\n}\n";
     assert_eq!(repository::asks(source), ["b"]);
 }
 
@@ -69,5 +76,6 @@ fn long_lines_and_cells() {
     let words = "word ".repeat(70);
     assert_eq!(layout::faults("a", &words).len(), 1);
     assert_eq!(layout::faults("a", &format!("| a | {words} |")).len(), 1);
+    assert_eq!(layout::faults("a", "a `name\nof` two lines\n").len(), 2);
     assert_eq!(layout::faults("a", "a line\n| a cell |\n").len(), 0);
 }
