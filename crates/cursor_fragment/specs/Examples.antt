@@ -7,7 +7,7 @@ use lib.IntN.{pos, negsuc}
 use Rattle.wire.specs.Number.{number}
 use Rattle.wire.specs.Signed.{signed}
 use Rattle.wire.specs.declared.status.Status.the-variants as status
-use Rattle.cursor_packet.specs.Checks.{firstOf}
+use Rattle.wire.specs.Checks.{firstOf}
 use Rattle.cursor_packet.specs.Rtp.{unusedZero, rtpHolds}
 use Rattle.cursor_packet.specs.Frame.{frameChecks}
 use Rattle.cursor_packet.specs.Examples.{rtp}

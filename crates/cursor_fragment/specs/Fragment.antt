@@ -13,7 +13,7 @@ use Rattle.wire.specs.declared.status.Status.the-variants as status
 use Rattle.cursor_fragment.specs.declared.Fragment.{Fragment}
 use Rattle.cursor_fragment.specs.declared.FragmentAnswer.{FragmentAnswer}
 use Rattle.cursor_fragment.specs.declared.FragmentAnswer.the-variants.{Accepted, Refused}
-use Rattle.cursor_packet.specs.Checks.{Check, refuse, firstOf, accepted}
+use Rattle.wire.specs.Checks.{Check, refuse, firstOf, accepted}
 use Rattle.cursor_fragment.specs.Continuation.{continuationOf, placeOf}
 use Rattle.cursor_packet.specs.Frame.{typeOf, sizeOf, frameChecks}
 use Rattle.cursor_fragment.specs.Start.{startOf, noStart}

@@ -10,7 +10,7 @@ use Rattle.wire.specs.declared.status.Status.{Status}
 use Rattle.wire.specs.declared.status.Status.the-variants as status
 use Rattle.cursor_fragment.specs.declared.Fragment.{Fragment}
 use Rattle.cursor_fragment.specs.declared.Parsed.{Parsed}
-use Rattle.cursor_packet.specs.Checks.{Check, refuse, accepted}
+use Rattle.wire.specs.Checks.{Check, refuse, accepted}
 use Rattle.cursor_packet.specs.Frame.{sizeOf}
 use Rattle.cursor_fragment.specs.Fragment.{headerLength, imageData, offsetOf, outside, fragmentOf, fragmentStatus}
 use Rattle.cursor_fragment.specs.Start.{noStart}

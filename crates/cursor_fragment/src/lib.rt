@@ -17,7 +17,7 @@ ghost use mathlib.Core.Path.{_≡_};
 ghost use Prim.Native.Nat.{min};
 ghost use Rattle.wire.specs.Number.{number};
 ghost use Rattle.wire.specs.Signed.{signed};
-ghost use Rattle.cursor_packet.specs.Checks.{firstOf};
+ghost use Rattle.wire.specs.Checks.{firstOf};
 ghost use Rattle.cursor_fragment.specs.Continuation.{continuationOf, placeOf};
 ghost use mathlib.Core.Bool.{true, false};
 ghost use Rattle.cursor_fragment.specs.Fragment.{isStart, headerLength, imageData, outside, startFragment, continuationFragment, readFragment};

@@ -8,7 +8,7 @@ use lib.Dec.{ltb}
 use lib.ListN.{length}
 use Rattle.wire.specs.Number.{number}
 use Rattle.wire.specs.declared.status.Status.the-variants as status
-use Rattle.cursor_packet.specs.Checks.{Check, refuse}
+use Rattle.wire.specs.Checks.{Check, refuse}
 use Rattle.cursor_packet.specs.Rtp.{rtpHolds}
 
 abbrev pub typeOf : List ℕ → ℕ

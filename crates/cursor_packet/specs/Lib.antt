@@ -1,4 +1,3 @@
-pub mod Checks
 pub mod Examples
 pub mod Frame
 pub mod Position

@@ -8,7 +8,7 @@ use Rattle.wire.specs.Signed.{signed}
 use Rattle.cursor_packet.specs.declared.position.Position.{Position}
 use Rattle.cursor_packet.specs.declared.position.PositionAnswer.{PositionAnswer}
 use Rattle.cursor_packet.specs.declared.position.PositionAnswer.the-variants.{Accepted, Refused}
-use Rattle.cursor_packet.specs.Checks.{Check, firstOf, accepted}
+use Rattle.wire.specs.Checks.{Check, firstOf, accepted}
 use Rattle.cursor_packet.specs.Frame.{typeOf, sizeOf, frameChecks}
 
 -- the checks of the call for positions, in their order

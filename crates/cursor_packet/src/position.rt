@@ -4,7 +4,7 @@
 //      15      2  XPos, signed
 //      17      2  YPos, signed
 ghost use mathlib.Core.Path.{_≡_};
-ghost use Rattle.cursor_packet.specs.Checks.{firstOf};
+ghost use Rattle.wire.specs.Checks.{firstOf};
 ghost use Rattle.cursor_packet.specs.Position.{positionChecks, positionOf, readPosition};
 use super::frame;
 use super::rtp;

@@ -8,7 +8,7 @@ use lib.IntN.{ℤ, pos}
 use Rattle.wire.specs.Sequence.{isNewer}
 use Rattle.wire.specs.declared.status.Status.{Status}
 use Rattle.wire.specs.declared.status.Status.the-variants as status
-use Rattle.cursor_packet.specs.Checks.{refuse, firstOf, accepted}
+use Rattle.wire.specs.Checks.{refuse, firstOf, accepted}
 use Rattle.cursor_packet.specs.Position.{positionChecks, positionOf}
 use Rattle.cursor_pointer.specs.declared.Pointer.{Pointer}
 use Rattle.cursor_pointer.specs.declared.Positioned.{Positioned}

@@ -4,7 +4,7 @@ use Prim.Native.Nat.{ℕ}
 use mathlib.Core.Bool.{cond}
 use mathlib.Core.List.{List}
 use Rattle.wire.specs.declared.status.Status.{Status}
-use Rattle.cursor_packet.specs.Checks.{firstOf, accepted}
+use Rattle.wire.specs.Checks.{firstOf, accepted}
 use Rattle.cursor_fragment.specs.Fragment.{fragmentOf, dataOf}
 use Rattle.cursor_fragment.specs.declared.Fragment.{Fragment}
 use Rattle.cursor_picture.specs.declared.Picture.{Picture}

@@ -6,7 +6,7 @@ use mathlib.Core.Bool.{Bool, true, false, _||_}
 use mathlib.Core.List.{List, [], _∷_}
 use lib.ListN.{length, getD}
 use Rattle.scan.specs.Empty.{filledAt}
-use Rattle.cursor_packet.specs.Checks.{accepted}
+use Rattle.wire.specs.Checks.{accepted}
 use Rattle.cursor_fragment.specs.Fragment.{isStart, fragmentOf, fragmentStatus, dataOf}
 use Rattle.cursor_fragment.specs.declared.start.Start.{Start}
 use Rattle.cursor_picture.specs.declared.completeness.CompleteAnswer.the-variants.{Yes}

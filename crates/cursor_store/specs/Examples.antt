@@ -13,7 +13,7 @@ use Rattle.wire.specs.declared.status.Status.the-variants as status
 use Rattle.scan.specs.Below.{someBelow}
 use Rattle.scan.specs.Conflict.{conflictIn}
 use Rattle.scan.specs.Order.{lesser}
-use Rattle.cursor_packet.specs.Checks.{firstOf}
+use Rattle.wire.specs.Checks.{firstOf}
 use Rattle.cursor_packet.specs.Frame.{frameChecks}
 use Rattle.cursor_packet.specs.Rtp.{rtpHolds, unusedZero}
 use Rattle.cursor_packet.specs.Position.{positionChecks, positionOf}

@@ -12,7 +12,7 @@ use Rattle.wire.specs.Sequence.{isNewer}
 use Rattle.wire.specs.Splice.{part}
 use Rattle.wire.specs.declared.status.Status.the-variants as status
 use Rattle.scan.specs.Conflict.{conflictIn}
-use Rattle.cursor_packet.specs.Checks.{Check, refuse, firstOf}
+use Rattle.wire.specs.Checks.{Check, refuse, firstOf}
 use Rattle.cursor_fragment.specs.declared.Fragment.{Fragment}
 use Rattle.cursor_fragment.specs.declared.start.Start.{Start}
 use Rattle.cursor_picture.specs.declared.Picture.{Picture}

@@ -8,7 +8,7 @@ use lib.ListN.{length, replicate}
 use Rattle.wire.specs.Splice.{splice}
 use Rattle.wire.specs.declared.status.Status.{Status}
 use Rattle.wire.specs.declared.status.Status.the-variants as status
-use Rattle.cursor_packet.specs.Checks.{Check, refuse, firstOf, accepted}
+use Rattle.wire.specs.Checks.{Check, refuse, firstOf, accepted}
 use Rattle.cursor_fragment.specs.Fragment.{isStart, fragmentChecks, fragmentOf, dataOf}
 use Rattle.cursor_fragment.specs.Start.{noStart}
 use Rattle.cursor_fragment.specs.declared.Fragment.{Fragment}

@@ -3,7 +3,7 @@
 ghost use mathlib.Core.Path.{_≡_};
 ghost use Prim.Native.Nat.{_+_, _≤_};
 ghost use lib.ListN.{length};
-ghost use Rattle.cursor_packet.specs.Checks.{firstOf};
+ghost use Rattle.wire.specs.Checks.{firstOf};
 ghost use Rattle.cursor_store.specs.Judging.{ofOpened, sameStart, startDiffers, bytesDiffer, openedRules, otherRules, judging};
 use cursor_fragment::Fragment;
 use cursor_fragment::start::Start;

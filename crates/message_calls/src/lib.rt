@@ -1,6 +1,4 @@
 // The calls of connection messages over lent records. Crate ashlarsilk exports each, and says there in words what a host gets.
-mod locating;
-
 ghost use mathlib.Core.Path.{_≡_};
 ghost use Rattle.message_calls.specs.MessageCalls.{readAnswer, readRecord, messageWritten, messageOutput, portAnswer, optionsAnswer};
 ghost use Rattle.message_calls.specs.MessageCalls.{sourceAnswer, sourceLent};
@@ -10,9 +8,9 @@ use host_answers::Written;
 use host_answers::Yes;
 use host_answers::accept;
 use host_answers::refuse;
+use message_reader::walk;
 use message_rules::accessors;
 use scan::bytes;
-use wire::number::u8_at;
 use wire::status;
 use wire::status::Status;
 
@@ -26,12 +24,15 @@ pub fn read(bytes: &[u8], record: &mut [u8]) -> Answer
         return refuse(Status::NoRoom, 0);
     }
     let mut values = [0u64; 8];
-    let verdict = locating::locate(bytes, &mut values);
-    let status = verdict.status;
-    if status::number(status) != 0 {
-        return refuse(status, verdict.place);
+    let answer = walk::locate(bytes, &mut values);
+    let number = (answer % 256) as u8;
+    if number != 0 {
+        return Answer {
+            status: number,
+            place: (answer / 256) as usize,
+        };
     }
-    message_layout::write(record, locating::message_from(u8_at(bytes, 3), &values));
+    message_layout::write(record, walk::message_from((answer / 256) as u8, &values));
     accept()
 }
 

@@ -1,4 +1,6 @@
+pub mod Answer
+pub mod Header
 pub mod Reading
-pub mod Checking
+pub mod Values
+pub mod Walk
 pub mod WellFormed
-pub mod Fields

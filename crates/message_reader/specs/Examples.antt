@@ -5,6 +5,7 @@ use mathlib.Core.List.{List, [], _∷_, _++_}
 use mathlib.Core.Bool.{Bool, true, false, _&&_}
 use lib.ListN.{replicate}
 use lib.Dec.{eqb}
+use Rattle.wire.specs.Checks.{firstOf}
 use Rattle.wire.specs.Number.{number}
 use Rattle.wire.specs.Status.{numberOf}
 use Rattle.message_reader.specs.declared.Answer.{Answer}
@@ -56,5 +57,5 @@ all (x ∷ xs) = holds x && all xs
 
 pub examples-hold : all examples ≡ true
 unfolding tail short givesPort givesRefusal holds examples all number rolesOf roleOf lengthsOf lengthOk knownCommand fieldOf withField emptyOf
-    allBelow hasNeeded isComplete headerOf tlvAt lastOf tlvsFrom readMessage portOf
+    allBelow hasNeeded isComplete firstOf headerOf tlvAt lastOf tlvsFrom readMessage portOf
 examples-hold = refl

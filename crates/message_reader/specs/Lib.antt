@@ -1,5 +1,4 @@
 pub mod Reading
-pub mod Checking
-pub mod Fields
+pub mod Values
 pub mod Examples
 pub mod Theorems

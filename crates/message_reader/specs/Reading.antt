@@ -1,24 +1,29 @@
 -- What reading a message gives, in 01's order of checks: "fewer than 4 bytes 1; Size below 4, 2; fewer bytes than Size 1; more 2; then 3, 4;
 -- then TLVs left to right, each 5, 8 (unknown or foreign), 6, 7; last 8 (missing)". Assumes nothing.
 use Prim.Native.Nat.{ℕ, zero, suc, _+_}
-use mathlib.Core.List.{List}
+use mathlib.Core.List.{List, [], _∷_, _++_}
 use mathlib.Core.Bool.{Bool, true, cond, not}
 use lib.ListN.{length, getD}
 use lib.Dec.{ltb, eqb}
 use Rattle.wire.specs.Number.{number}
-use Rattle.wire.specs.declared.status.Status.{Status}
+use Rattle.wire.specs.Below.{allBelow}
+use Rattle.wire.specs.Checks.{Check, refuse, firstOf, accepted}
 use Rattle.wire.specs.declared.status.Status.the-variants as status
 use Rattle.message_rules.specs.declared.record.Field.{Field}
 use Rattle.message_rules.specs.declared.record.Message.{Message}
+use Rattle.message_rules.specs.Rules.{roleOf, foreign, needed, lengthOk, knownCommand}
+use Rattle.message_rules.specs.Record.{fieldOf, withField, emptyOf}
 use Rattle.message_reader.specs.declared.Answer.{Answer}
 use Rattle.message_reader.specs.declared.Answer.the-variants as answer
-use Rattle.message_reader.specs.declared.Header.{Header}
-use Rattle.message_reader.specs.declared.Header.the-variants as header
-use Rattle.message_rules.specs.Rules.{roleOf, foreign, needed, lengthOk, knownCommand}
-use Rattle.wire.specs.Below.{allBelow}
-use Rattle.message_rules.specs.Record.{fieldOf, withField, emptyOf}
+use Rattle.message_reader.specs.declared.header.Size.{Size}
+use Rattle.message_reader.specs.declared.header.Size.the-variants as size
+use Rattle.message_reader.specs.declared.header.Header.{Header}
+use Rattle.message_reader.specs.declared.header.Header.the-variants as header
+use Rattle.message_reader.specs.declared.tlv.Tlv.{Tlv}
+use Rattle.message_reader.specs.declared.tlv.Tlv.the-variants as tlv
 
--- Size, Version and Command of the message s (001 section 2.2)
+-- ---- the header (001 section 2.2)
+
 abbrev pub sizeIn : List ℕ → ℕ
 sizeIn s = number 2 s 0
 
@@ -28,18 +33,30 @@ versionIn s = getD s 2 0
 abbrev pub commandIn : List ℕ → ℕ
 commandIn s = getD s 3 0
 
+-- the rule of Size: the header is there, and Size counts it
+abbrev pub sizeChecks : List ℕ → List Check
+sizeChecks s = refuse status.Truncated (ltb (length s) 4) ∷ (refuse status.WrongSize (ltb (sizeIn s) 4) ∷ [])
+
+-- the Size of the message that s begins with, or what it is refused with
+unfoldable pub readSize : List ℕ → Size
+readSize s = cond (accepted (firstOf (sizeChecks s))) (size.Declared (sizeIn s)) (size.Refused (firstOf (sizeChecks s)))
+
+abbrev pub headerChecks : List ℕ → List Check
+headerChecks s =
+    sizeChecks s
+    ++ (refuse status.Truncated (ltb (length s) (sizeIn s))
+    ∷ (refuse status.WrongSize (ltb (sizeIn s) (length s))
+    ∷ (refuse status.WrongHeader (not (eqb (versionIn s) 1))
+    ∷ (refuse status.UnknownKind (not (knownCommand (commandIn s)))
+    ∷ []))))
+
 -- the command, or what the header is refused with
 unfoldable pub headerOf : List ℕ → Header
-headerOf s =
-    cond (ltb (length s) 4) (header.Refused status.Truncated)
-    (cond (ltb (sizeIn s) 4) (header.Refused status.WrongSize)
-    (cond (ltb (length s) (sizeIn s)) (header.Refused status.Truncated)
-    (cond (ltb (sizeIn s) (length s)) (header.Refused status.WrongSize)
-    (cond (not (eqb (versionIn s) 1)) (header.Refused status.WrongHeader)
-    (cond (not (knownCommand (commandIn s))) (header.Refused status.UnknownKind)
-    (header.Command (commandIn s)))))))
+headerOf s = cond (accepted (firstOf (headerChecks s))) (header.Command (commandIn s)) (header.Refused (firstOf (headerChecks s)))
 
--- Type and Length of the TLV at `at`, the place after it, and its value (001 section 2.2.7)
+-- ---- a TLV (001 section 2.2.7)
+
+-- Type and Length of the TLV at `at`, the place after it, and its value
 abbrev pub typeAt : List ℕ → ℕ → ℕ
 typeAt s at = getD s at 0
 
@@ -52,20 +69,22 @@ nextAt s at = at + 3 + lengthAt s at
 abbrev pub valueAt : List ℕ → ℕ → Field
 valueAt s at = record { present = true; at = at + 3; len = lengthAt s at }
 
--- What one TLV gives: the place after it and the record with its value, or the refusal and its place.
-pub data Step : Type 0 where
-  Known : ℕ → Message → Step
-  Refused : Status → ℕ → Step
+-- m is the record of the TLVs before it
+abbrev pub tlvChecks : List ℕ → ℕ → Message → List Check
+tlvChecks s at m =
+    refuse status.TlvTruncated (ltb (length s) (at + 3))
+    ∷ (refuse status.TlvTruncated (ltb (length s) (nextAt s at))
+    ∷ (refuse status.TlvUnexpected (eqb (roleOf (m .command) (typeAt s at)) foreign)
+    ∷ (refuse status.TlvLength (not (lengthOk (typeAt s at) (lengthAt s at)))
+    ∷ (refuse status.TlvRepeated (fieldOf m (typeAt s at) .present)
+    ∷ []))))
 
--- the TLV at `at`, after those of m: the place after it and m with its value, or what it is refused with
-unfoldable pub tlvAt : List ℕ → ℕ → Message → Step
+-- its type and the length of its value, or what it is refused with
+unfoldable pub tlvAt : List ℕ → ℕ → Message → Tlv
 tlvAt s at m =
-    cond (ltb (length s) (at + 3)) (Refused status.TlvTruncated at)
-    (cond (ltb (length s) (nextAt s at)) (Refused status.TlvTruncated at)
-    (cond (eqb (roleOf (m .command) (typeAt s at)) foreign) (Refused status.TlvUnexpected at)
-    (cond (not (lengthOk (typeAt s at) (lengthAt s at))) (Refused status.TlvLength at)
-    (cond (fieldOf m (typeAt s at) .present) (Refused status.TlvRepeated at)
-    (Known (nextAt s at) (withField m (typeAt s at) (valueAt s at)))))))
+    cond (accepted (firstOf (tlvChecks s at m))) (tlv.Right (typeAt s at) (lengthAt s at)) (tlv.Refused (firstOf (tlvChecks s at m)))
+
+-- ---- the message
 
 -- if the command needs type t, it is there
 unfoldable pub hasNeeded : Message → ℕ → Bool
@@ -79,14 +98,15 @@ isComplete m = allBelow 8 (hasNeeded m)
 unfoldable pub lastOf : ℕ → Message → Answer
 lastOf n m = cond (isComplete m) (answer.Accepted m) (answer.Refused status.TlvUnexpected n)
 
-abbrev pub goOn : (ℕ → Message → Answer) → Step → Answer
-goOn rest (Known at m) = rest at m
-goOn rest (Refused st place) = answer.Refused st place
+-- after the TLV at `at`: on from the place behind it, with its value in the record, or the refusal, whose place is that of the TLV
+abbrev pub goOn : (ℕ → Message → Answer) → ℕ → Message → Tlv → Answer
+goOn rest at m (tlv.Right t n) = rest (at + 3 + n) (withField m t (record { present = true; at = at + 3; len = n }))
+goOn rest at m (tlv.Refused st) = answer.Refused st at
 
 -- the TLVs from `at` on, at most k of them: a TLV has three bytes or more, so the number of bytes is enough for k
 unfoldable pub tlvsFrom : ℕ → List ℕ → ℕ → Message → Answer
 tlvsFrom zero s at m = lastOf (length s) m
-tlvsFrom (suc k) s at m = cond (ltb at (length s)) (goOn (tlvsFrom k s) (tlvAt s at m)) (lastOf (length s) m)
+tlvsFrom (suc k) s at m = cond (ltb at (length s)) (goOn (tlvsFrom k s) at m (tlvAt s at m)) (lastOf (length s) m)
 
 abbrev pub afterHeader : List ℕ → Header → Answer
 afterHeader s (header.Command c) = tlvsFrom (length s) s 4 (emptyOf c)

@@ -2,11 +2,15 @@
 -- Assumes nothing.
 use Prim.Native.Nat.{ℕ}
 use mathlib.Core.List.{List}
-use mathlib.Core.Bool.{cond}
-use lib.ListN.{length}
-use lib.Dec.{ltb}
-use Rattle.message_reader.specs.Reading.{sizeIn}
+use Rattle.message_reader.specs.declared.header.Size.{Size}
+use Rattle.message_reader.specs.declared.header.Size.the-variants as size
+use Rattle.message_reader.specs.Reading.{readSize}
 
--- s is what was read from one place on: four bytes for the header, which are enough to refuse a Size below 4; then as many as Size says
+-- the header's four bytes are enough to refuse a Size; else as many as Size says
+abbrev pub bytesFor : Size → ℕ
+bytesFor (size.Declared n) = n
+bytesFor (size.Refused st) = 4
+
+-- s is what was read from one place on
 unfoldable pub neededOf : List ℕ → ℕ
-neededOf s = cond (ltb (length s) 4) 4 (cond (ltb (sizeIn s) 4) 4 (sizeIn s))
+neededOf s = bytesFor (readSize s)

@@ -3,12 +3,13 @@ use Prim.Native.Nat.{ℕ}
 use mathlib.Core.List.{List}
 use mathlib.Core.Bool.{cond}
 use lib.ListN.{length, take}
-use lib.Dec.{ltb, eqb}
+use lib.Dec.{eqb}
 use Rattle.wire.specs.declared.status.Status.{Status}
 use Rattle.wire.specs.declared.status.Status.the-variants as status
 use Rattle.message_reader.specs.declared.Answer.{Answer}
 use Rattle.message_reader.specs.declared.Answer.the-variants as answer
-use Rattle.message_reader.specs.Reading.{sizeIn, readMessage}
+use Rattle.message_reader.specs.Reading.{readMessage}
+use Rattle.message_recording.specs.Cut.{neededOf}
 use Rattle.message_recording.specs.declared.line.Line.{Line}
 use Rattle.message_recording.specs.declared.line.Line.the-variants as line
 
@@ -22,12 +23,7 @@ abbrev pub shown : ℕ → Answer → Line
 shown n (answer.Accepted m) = line.Message (m .command) n
 shown n (answer.Refused st place) = line.Refused st
 
--- the line of the bytes s from one place on: none left is the end, "fewer than 4 bytes left is 1, then a Size below 4 is 2", fewer than Size
--- 1; then the reader's answer on the message that Size cuts off
+-- the line of the bytes s from one place on: none left is the end; else the reader's answer on those that decide it, or on all where fewer are
+-- left
 unfoldable pub lineOf : List ℕ → Line
-lineOf s =
-    cond (eqb (length s) 0) line.End
-    (cond (ltb (length s) 4) (line.Refused status.Truncated)
-    (cond (ltb (sizeIn s) 4) (line.Refused status.WrongSize)
-    (cond (ltb (length s) (sizeIn s)) (line.Refused status.Truncated)
-    (shown (sizeIn s) (readMessage (take (sizeIn s) s))))))
+lineOf s = cond (eqb (length s) 0) line.End (shown (neededOf s) (readMessage (take (neededOf s) s)))

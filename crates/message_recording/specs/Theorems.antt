@@ -1,9 +1,10 @@
 -- The theorems on listings, as named types, with 01's sentences. Their proofs stand in proofs/Laws. Assumes nothing.
-use Prim.Native.Nat.{ℕ, _+_, _≤_}
+use Prim.Native.Nat.{ℕ, _+_, _≤_, _<_}
 use mathlib.Core.Path.{_≡_}
 use mathlib.Core.List.{List, [], _∷_, _++_}
 use lib.ListN.{length, take, drop}
 use Rattle.wire.specs.declared.status.Status.{Status}
+use Rattle.wire.specs.declared.status.Status.the-variants as status
 use Rattle.message_rules.specs.declared.record.Message.{Message}
 use Rattle.message_reader.specs.declared.Answer.the-variants as answer
 use Rattle.message_reader.specs.Reading.{sizeIn, commandIn, readMessage}
@@ -47,6 +48,14 @@ MessageExactly =
 -- The end is shown exactly when no bytes are left.
 unfoldable pub EndExactly : Type 0
 EndExactly = (s : List ℕ) → (lineOf s ≡ line.End → s ≡ []) × (s ≡ [] → lineOf s ≡ line.End)
+
+-- "fewer than 4 bytes left is 1, then a Size below 4 is 2"; and fewer bytes than Size are 1.
+unfoldable pub CutRefused : Type 0
+CutRefused =
+    (s : List ℕ) → 0 < length s
+    → (length s < 4 → lineOf s ≡ line.Refused status.Truncated)
+    × (4 ≤ length s → sizeIn s < 4 → lineOf s ≡ line.Refused status.WrongSize)
+    × (4 ≤ length s → length s < sizeIn s → lineOf s ≡ line.Refused status.Truncated)
 
 -- ---- The whole listing
 

@@ -1,8 +1,8 @@
 // A line of the listing.
 ghost use mathlib.Core.Path.{_≡_};
 ghost use Rattle.message_recording.specs.Line.{statusOf, lineOf};
+use crate::cut::needed;
 use message_reader::Answer;
-use wire::number::u16_at;
 use wire::status::Status;
 
 // What the listing shows at a place: an accepted message, what the bytes there are refused with, or that there are none.
@@ -29,17 +29,7 @@ pub fn first_line(bytes: &[u8]) -> Line
     if bytes.len() == 0 {
         return Line::End;
     }
-    if bytes.len() < 4 {
-        return Line::Refused {
-            status: Status::Truncated,
-        };
-    }
-    let size = u16_at(bytes, 0) as usize;
-    if size < 4 {
-        return Line::Refused {
-            status: Status::WrongSize,
-        };
-    }
+    let size = needed(bytes);
     if bytes.len() < size {
         return Line::Refused {
             status: Status::Truncated,

@@ -16,10 +16,6 @@ needed = 1
 abbrev pub optional : ℕ
 optional = 2
 
--- In a row of the table of roles, for a type that was there.
-abbrev pub seen : ℕ
-seen = 3
-
 -- The roles of the types in no command.
 abbrev pub noRoles : List ℕ
 noRoles = foreign ∷ foreign ∷ foreign ∷ foreign ∷ foreign ∷ foreign ∷ foreign ∷ foreign ∷ []
@@ -43,16 +39,12 @@ roles =
     -- 6 PIN Response
     (foreign ∷ foreign ∷ foreign ∷ needed ∷ foreign ∷ foreign ∷ needed ∷ needed ∷ []) ∷ []
 
--- what stands for type t in a row; a type that the table doesn't have is foreign
-abbrev pub entryOf : List ℕ → ℕ → ℕ
-entryOf row t = getD row t foreign
-
 unfoldable pub rolesOf : ℕ → List ℕ
 rolesOf c = getD roles c noRoles
 
 -- what type t is to command c; a type or a command that the table doesn't have is foreign
 unfoldable pub roleOf : ℕ → ℕ → ℕ
-roleOf c t = entryOf (rolesOf c) t
+roleOf c t = getD (rolesOf c) t foreign
 
 unfoldable pub knownCommand : ℕ → Bool
 knownCommand c = leb 1 c && leb c 6

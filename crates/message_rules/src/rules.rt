@@ -1,6 +1,6 @@
 // The two tables that reader and writer share: which TLV types a command has, and how long the value of each may be.
 ghost use mathlib.Core.Path.{_≡_};
-ghost use Rattle.message_rules.specs.Rules.{entryOf, rolesOf, roleOf, lengthsOf, lengthOk, knownCommand};
+ghost use Rattle.message_rules.specs.Rules.{rolesOf, roleOf, lengthsOf, lengthOk, knownCommand};
 
 // What a TLV type is to a command.
 pub const FOREIGN: u8 = 0;
@@ -8,9 +8,6 @@ pub const FOREIGN: u8 = 0;
 pub const NEEDED: u8 = 1;
 
 pub const OPTIONAL: u8 = 2;
-
-// In a row of the table, once a TLV of the type was read: it may not come again, and is not missing.
-pub const SEEN: u8 = 3;
 
 const F: u8 = FOREIGN;
 
@@ -33,10 +30,10 @@ pub fn known_command(command: u8) -> bool
 
 // A row of the table: what each TLV type is to a command. Columns: 0 Friendly Name, 1 no such type, 2 RTSP Port, 3 Source ID, 4 Security Token,
 // 5 Security Options, 6 PIN Challenge, 7 PIN Response Reason.
-pub type Roles = [u8; 8];
+type Roles = [u8; 8];
 
 // The roles of the TLV types in a command.
-pub fn roles_of(command: u8) -> Roles
+fn roles_of(command: u8) -> Roles
     ensures { λ r. ⌜ r ≡ rolesOf command ⌝ }
 {
     match command {
@@ -55,17 +52,6 @@ pub fn roles_of(command: u8) -> Roles
         // no such command
         _ => [F, F, F, F, F, F, F, F],
     }
-}
-
-// What stands for a type in a row of the table; a type that the table doesn't have is foreign.
-pub fn entry(row: &[u8], kind: u8) -> u8
-    ensures { λ r. ⌜ r ≡ entryOf (now (row .entry)) kind ⌝ }
-{
-    let column = kind as usize;
-    if column < row.len() {
-        return row[column];
-    }
-    FOREIGN
 }
 
 // What a TLV type is to a command: FOREIGN, NEEDED or OPTIONAL. A type or a command that the table doesn't have is foreign.

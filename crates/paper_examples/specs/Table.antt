@@ -27,7 +27,7 @@ use Rattle.session_step.specs.declared.step.Stepped.{Stepped}
 use Rattle.session_step.specs.Step.{optionsFrom, sourceAfter, accepted, stepOf}
 use Rattle.cursor_packet.specs.declared.position.PositionAnswer.{PositionAnswer}
 use Rattle.cursor_packet.specs.declared.position.PositionAnswer.the-variants as positioned
-use Rattle.cursor_packet.specs.Checks.{firstOf}
+use Rattle.wire.specs.Checks.{firstOf}
 use Rattle.cursor_packet.specs.Rtp.{unusedZero, rtpHolds}
 use Rattle.cursor_packet.specs.Frame.{frameChecks}
 use Rattle.cursor_packet.specs.Position.{positionChecks, positionOf, readPosition}

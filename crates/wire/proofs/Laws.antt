@@ -1,8 +1,11 @@
 pub mod Below
 pub mod Bool
+pub mod Checks
+pub mod Count
 pub mod Laid
 pub mod Number
 pub mod Sequence
 pub mod Signed
 pub mod Splice
+pub mod Status
 pub mod Written

@@ -1,4 +1,5 @@
 pub mod Below
+pub mod Checks
 pub mod Examples
 pub mod Laid
 pub mod Number

@@ -1,5 +1,7 @@
 -- The paper's number of each status (01, "Refusal numbers"). Assumes nothing.
 use Prim.Native.Nat.{ℕ}
+use mathlib.Core.List.{List, [], _∷_}
+use lib.ListN.{getD}
 use Rattle.wire.specs.declared.status.Status.{Status}
 use Rattle.wire.specs.declared.status.Status.the-variants as status
 
@@ -23,3 +25,30 @@ numberOf status.OtherSource = 15
 numberOf status.NotGrammar = 16
 numberOf status.ImageNotHeld = 17
 numberOf status.NotWritable = 18
+
+-- the statuses in the order of their numbers
+abbrev pub statuses : List Status
+statuses =
+    status.Accepted ∷
+    status.Truncated ∷
+    status.WrongSize ∷
+    status.WrongHeader ∷
+    status.UnknownKind ∷
+    status.TlvTruncated ∷
+    status.TlvLength ∷
+    status.TlvRepeated ∷
+    status.TlvUnexpected ∷
+    status.OutsideImage ∷
+    status.NoRoom ∷
+    status.NotNewer ∷
+    status.TotalDiffers ∷
+    status.Conflict ∷
+    status.UnexpectedEvent ∷
+    status.OtherSource ∷
+    status.NotGrammar ∷
+    status.ImageNotHeld ∷
+    status.NotWritable ∷ []
+
+-- the status of a number; one above 18 is no status's, and is an unknown kind
+unfoldable pub statusFor : ℕ → Status
+statusFor n = getD statuses n status.UnknownKind

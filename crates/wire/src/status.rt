@@ -1,7 +1,7 @@
 // What a call answers: accepted, or one of the refusals of 01, "Refusal numbers". Code and definitions use these names; `number` gives
 // the paper's number of each.
 ghost use mathlib.Core.Path.{_≡_};
-ghost use Rattle.wire.specs.Status.{numberOf};
+ghost use Rattle.wire.specs.Status.{numberOf, statusFor};
 
 pub enum Status {
     // 0: accepted.
@@ -69,5 +69,35 @@ pub fn number(status: Status) -> u8
         Status::NotGrammar => 16,
         Status::ImageNotHeld => 17,
         Status::NotWritable => 18,
+    }
+}
+
+// The status of a number. No status has a number above 18: one is an unknown kind.
+pub fn of_number(number: u8) -> Status
+    ensures { λ r. ⌜ r ≡ statusFor number ⌝ }
+{
+    if 18 < number {
+        return Status::UnknownKind;
+    }
+    match number {
+        0 => Status::Accepted,
+        1 => Status::Truncated,
+        2 => Status::WrongSize,
+        3 => Status::WrongHeader,
+        4 => Status::UnknownKind,
+        5 => Status::TlvTruncated,
+        6 => Status::TlvLength,
+        7 => Status::TlvRepeated,
+        8 => Status::TlvUnexpected,
+        9 => Status::OutsideImage,
+        10 => Status::NoRoom,
+        11 => Status::NotNewer,
+        12 => Status::TotalDiffers,
+        13 => Status::Conflict,
+        14 => Status::UnexpectedEvent,
+        15 => Status::OtherSource,
+        16 => Status::NotGrammar,
+        17 => Status::ImageNotHeld,
+        _ => Status::NotWritable,
     }
 }

@@ -8,7 +8,7 @@ use lib.Dec.{leb}
 use lib.ListN.{length}
 use Rattle.wire.specs.declared.status.Status.{Status}
 use Rattle.wire.proofs.Laws.Bool.{by-test}
-use Rattle.cursor_packet.specs.Checks.{accepted}
+use Rattle.wire.specs.Checks.{accepted}
 use Rattle.cursor_fragment.specs.declared.Fragment.{Fragment}
 use Rattle.cursor_pointer.specs.declared.Pointer.{Pointer}
 use Rattle.cursor_pointer.specs.declared.PointerAnswer.{PointerAnswer}

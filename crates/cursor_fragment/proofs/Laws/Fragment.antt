@@ -15,11 +15,11 @@ use Rattle.wire.specs.declared.status.Status.{Status}
 use Rattle.wire.specs.declared.status.Status.the-variants as status
 use Rattle.cursor_fragment.specs.declared.Fragment.{Fragment}
 use Rattle.cursor_fragment.specs.declared.FragmentAnswer.the-variants.{Accepted, Refused}
-use Rattle.cursor_packet.specs.Checks.{refuse, firstOf, accepted, refusing}
+use Rattle.wire.specs.Checks.{refuse, firstOf, accepted, refusing}
 use Rattle.cursor_packet.specs.Frame.{frameChecks}
 use Rattle.cursor_fragment.specs.Fragment.{isStart, headerLength, imageData, offsetOf, outside, fragmentFrame, fragmentChecks, startFragment, continuationFragment, fragmentOf, fragmentStatus, dataOf, readFragment, OffsetKept, DataInside}
 use Rattle.cursor_fragment.specs.Continuation.{continuationOf, placeOf}
-use Rattle.cursor_packet.proofs.Laws.Checks.{first-append}
+use Rattle.wire.proofs.Laws.Checks.{first-append}
 
 -- more data than the total
 pub outside-large : (z : ℤ) (n t : ℕ) → t < n → outside z n t ≡ true

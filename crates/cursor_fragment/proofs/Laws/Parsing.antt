@@ -9,7 +9,7 @@ use lib.ListN.{length}
 use Rattle.wire.specs.declared.status.Status.the-variants as status
 use Rattle.cursor_fragment.specs.declared.Parsed.{Parsed}
 use Rattle.cursor_fragment.specs.declared.FragmentAnswer.the-variants.{Accepted, Refused}
-use Rattle.cursor_packet.specs.Checks.{firstOf, accepted}
+use Rattle.wire.specs.Checks.{firstOf, accepted}
 use Rattle.cursor_packet.specs.Frame.{typeOf, frameChecks}
 use Rattle.cursor_packet.specs.Rtp.{rtpHolds}
 use Rattle.cursor_fragment.specs.Fragment.{isStart, takesType, fragmentFrame, fragmentChecks, startFragment, continuationFragment, fragmentOf, fragmentStatus, readFragment}

@@ -4,7 +4,7 @@ use mathlib.Core.Path.{sym, _∙_}
 use native.Mathlib.Omega.{arith}
 use denote.Ref.{now}
 use Rattle.wire.specs.Number.{number}
-use Rattle.cursor_packet.specs.Checks.{firstOf}
+use Rattle.wire.specs.Checks.{firstOf}
 use Rattle.cursor_fragment.specs.Continuation.{continuationOf}
 use Rattle.cursor_fragment.specs.Fragment.{headerLength}
 use Rattle.cursor_fragment.specs.Parsing.{bodyChecks, refusedAs, parsedAs}

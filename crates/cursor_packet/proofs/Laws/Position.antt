@@ -7,7 +7,7 @@ use native.Mathlib.Omega.{arith}
 use Rattle.wire.specs.declared.status.Status.{Status}
 use Rattle.cursor_packet.specs.declared.position.Position.{Position}
 use Rattle.cursor_packet.specs.declared.position.PositionAnswer.the-variants.{Accepted, Refused}
-use Rattle.cursor_packet.specs.Checks.{firstOf, accepted, refusing}
+use Rattle.wire.specs.Checks.{firstOf, accepted, refusing}
 use Rattle.cursor_packet.specs.Frame.{frameChecks}
 use Rattle.cursor_packet.specs.Position.{positionChecks, positionOf, readPosition}
 

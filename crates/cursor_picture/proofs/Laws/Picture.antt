@@ -4,7 +4,7 @@ use mathlib.Core.Path.{_≡_}
 use mathlib.Core.Bool.{true, _&&_}
 use borrow.Author.Tests.{leb-true}
 use lib.Dec.{leb}
-use Rattle.cursor_packet.proofs.Laws.Checks.{both}
+use Rattle.wire.proofs.Laws.Bool.{both}
 use Rattle.cursor_picture.specs.declared.Picture.{Picture}
 use Rattle.cursor_picture.specs.Picture.{hasRoom, held}
 

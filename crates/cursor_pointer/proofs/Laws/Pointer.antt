@@ -6,9 +6,9 @@ use mathlib.Core.List.{List, [], _∷_}
 use Rattle.wire.specs.Sequence.{distance, isNewer}
 use Rattle.wire.specs.declared.status.Status.{Status}
 use Rattle.wire.specs.declared.status.Status.the-variants as status
-use Rattle.cursor_packet.specs.Checks.{refuse, firstOf, accepted}
+use Rattle.wire.specs.Checks.{refuse, firstOf, accepted}
 use Rattle.cursor_packet.specs.Position.{positionChecks, positionOf}
-use Rattle.cursor_packet.proofs.Laws.Checks.{first-append}
+use Rattle.wire.proofs.Laws.Checks.{first-append}
 use Rattle.cursor_packet.proofs.Laws.Position.{checks-refuse}
 use Rattle.cursor_pointer.specs.declared.Pointer.{Pointer}
 use Rattle.cursor_pointer.specs.declared.Positioned.{Positioned}

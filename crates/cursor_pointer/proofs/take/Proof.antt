@@ -5,7 +5,7 @@ use mir.Syntax.{w16}
 use mir.Val.{SFits}
 use mir.ValLaws.{toZ-ofZ}
 use borrow.Author.Tests.{eq-eqb, ne-eqb}
-use Rattle.cursor_packet.specs.Checks.{accepted}
+use Rattle.wire.specs.Checks.{accepted}
 use Rattle.cursor_pointer.proofs.Laws.Pointer.{moved-refused, moved-late, moved-moves}
 use borrow.Author.Needs.{needs}
 use Rattle.cursor_pointer.proofs.take.Statement.{statement}

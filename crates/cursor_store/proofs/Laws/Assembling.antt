@@ -10,7 +10,7 @@ use Rattle.wire.specs.declared.status.Status.the-variants as status
 use Rattle.wire.proofs.Laws.Bool.{by-test}
 use Rattle.cursor_fragment.specs.declared.Fragment.{Fragment}
 use Rattle.cursor_fragment.specs.declared.Parsed.{Parsed}
-use Rattle.cursor_packet.specs.Checks.{firstOf, accepted}
+use Rattle.wire.specs.Checks.{firstOf, accepted}
 use Rattle.cursor_fragment.specs.Fragment.{isStart, imageData, startFragment, continuationFragment, fragmentOf, fragmentStatus, dataOf, DataInside}
 use Rattle.cursor_fragment.specs.Parsing.{parsedAs, parsed}
 use Rattle.cursor_fragment.specs.Start.{startPosition}

@@ -10,7 +10,7 @@ use lib.ListN.{length, getD, replicate, length-replicate}
 use Rattle.wire.specs.Splice.{splice}
 use Rattle.wire.specs.declared.status.Status.{Status}
 use Rattle.wire.proofs.Laws.Splice.{length-splice, after-part, getD-splice}
-use Rattle.cursor_packet.specs.Checks.{firstOf, accepted}
+use Rattle.wire.specs.Checks.{firstOf, accepted}
 use Rattle.cursor_fragment.specs.Fragment.{fragmentOf, dataOf, DataInside}
 use Rattle.cursor_fragment.specs.declared.Fragment.{Fragment}
 use Rattle.cursor_fragment.proofs.Laws.Fragment.{data-inside}

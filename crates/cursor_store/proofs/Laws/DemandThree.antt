@@ -18,11 +18,11 @@ use Rattle.scan.specs.Empty.{filledAt}
 use Rattle.scan.specs.Order.{lesser}
 use Rattle.scan.proofs.Laws.Below.{below-none}
 use Rattle.scan.proofs.Laws.Order.{lesser-le}
-use Rattle.cursor_packet.specs.Checks.{firstOf}
+use Rattle.wire.specs.Checks.{firstOf}
 use Rattle.cursor_fragment.specs.Fragment.{isStart, fragmentOf, dataOf, DataInside}
 use Rattle.cursor_fragment.specs.declared.Fragment.{Fragment}
 use Rattle.cursor_fragment.specs.declared.start.Start.{Start}
-use Rattle.cursor_packet.proofs.Laws.Checks.{both}
+use Rattle.wire.proofs.Laws.Bool.{both}
 use Rattle.cursor_fragment.proofs.Laws.Fragment.{data-inside, starts-is}
 use Rattle.cursor_picture.specs.declared.Picture.{Picture}
 use Rattle.cursor_picture.specs.declared.completeness.CompleteAnswer.the-variants.{Yes, No}

@@ -6,7 +6,7 @@ use mathlib.Core.List.{List}
 use lib.ListN.{length}
 use Rattle.wire.specs.declared.status.Status.{Status}
 use Rattle.wire.specs.declared.status.Status.the-variants as status
-use Rattle.cursor_packet.specs.Checks.{firstOf, accepted}
+use Rattle.wire.specs.Checks.{firstOf, accepted}
 use Rattle.cursor_fragment.specs.declared.Fragment.{Fragment}
 use Rattle.cursor_pointer.proofs.Laws.Pointer.{wrap-newer}
 use Rattle.cursor_picture.specs.declared.Picture.{Picture}

@@ -6,9 +6,9 @@ use mathlib.Core.List.{List}
 use lib.ListN.{length}
 use Rattle.wire.specs.declared.status.Status.{Status}
 use Rattle.wire.specs.declared.status.Status.the-variants as status
-use Rattle.cursor_packet.specs.Checks.{firstOf, accepted}
+use Rattle.wire.specs.Checks.{firstOf, accepted}
 use Rattle.cursor_fragment.specs.Fragment.{isStart, fragmentChecks, fragmentOf, fragmentStatus, dataOf}
-use Rattle.cursor_packet.proofs.Laws.Checks.{first-append}
+use Rattle.wire.proofs.Laws.Checks.{first-append}
 use Rattle.cursor_fragment.proofs.Laws.Fragment.{checks-refuse}
 use Rattle.cursor_pointer.specs.declared.Pointer.{Pointer}
 use Rattle.cursor_picture.specs.declared.Picture.{Picture}

@@ -11,8 +11,7 @@ use Rattle.message_reader.specs.declared.Answer.{Answer}
 use Rattle.message_reader.specs.declared.Answer.the-variants as reader
 use Rattle.message_writer.specs.declared.Written.{Written}
 use Rattle.message_rules.specs.declared.accessors.SourceId.{SourceId}
-use Rattle.message_reader.specs.Reading.{commandIn, readMessage}
-use Rattle.wire.specs.Number.{number}
+use Rattle.message_reader.specs.Reading.{readMessage}
 use Rattle.message_writer.specs.Writing.{writeAnswer, output}
 use Rattle.message_rules.specs.Accessors.{sourceOf}
 use Rattle.message_layout.specs.MessageLayout.{messageBytes, messageIn}
@@ -22,11 +21,6 @@ use Rattle.host_answers.specs.declared.Yes.{Yes}
 use Rattle.host_answers.specs.Answers.{short}
 use Rattle.message_calls.specs.MessageCalls.{answerOf, readAnswer, recordOf, readRecord, notWritten, writtenOf, messageWritten, messageOutput}
 use Rattle.message_calls.specs.MessageCalls.{noAnswer, sourceAnswer, sourceCopied, sourceLent}
-
--- the command is a number of one byte
-pub command-byte : (s : List ℕ) → number 1 s 3 ≡ commandIn s
-unfolding number
-command-byte s = omega arith
 
 module _ (s xs : List ℕ) where
   short-kept : length xs < 64 → (a : Answer) → recordOf a xs ≡ xs

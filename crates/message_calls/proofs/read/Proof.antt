@@ -1,15 +1,14 @@
--- The record is short, or the verdict decides. Assumes nothing.
-use Prim.Native.Nat.{ℕ}
-use mathlib.Core.Path.{sym, ap, _∙_}
+-- The record is short, or the answer's number decides. Assumes nothing.
+use Prim.Native.Nat.{ℕ, _/_, _%_}
+use mathlib.Core.Path.{refl, sym, ap, _∙_}
 use native.Mathlib.Omega.{arith}
-use denote.Ref.{now}
-use Rattle.wire.specs.Status.{numberOf}
-use Rattle.message_reader.specs.declared.Answer.the-variants as answer
-use Rattle.message_reader.specs.declared.Verdict.{Verdict}
-use Rattle.message_reader.specs.Reading.{readMessage}
-use Rattle.message_reader.proofs.Laws.Reading.{zero-accepted, other-refused}
-use Rattle.message_calls.proofs.Laws.MessageCalls.{command-byte, read-short, read-answered}
 use borrow.Author.Needs.{needs}
+use denote.Ref.{now}
+use Rattle.message_reader.specs.declared.Answer.the-variants as answer
+use Rattle.message_reader.specs.Reading.{readMessage}
+use Rattle.message_reader.specs.Values.{messageFrom, valuesAfter}
+use Rattle.message_reader.proofs.Laws.Answer.{command-small, number-accepted, number-refused}
+use Rattle.message_calls.proofs.Laws.MessageCalls.{read-short, read-answered}
 use Rattle.message_calls.proofs.read.Statement.{statement}
 use Rattle.message_calls.proofs.read.Tie as tie
 
@@ -25,25 +24,26 @@ returns c =
 locate-requires : tie.Need-locate-requires
 locate-requires c κs = search needs
 
-number-requires : tie.Need-number-requires
-number-requires c κs = search needs
-
-refuse-requires-2 : tie.Need-refuse-requires-2
-refuse-requires-2 c κs = search needs
+cast-number : tie.Need-cast-number
+cast-number c = search needs
 
 returns-2 : tie.Need-returns-2
 returns-2 c =
-    let n = c .before .before in
-    let k = n .before in
-    let i = k .before .before in
+    let l = c .before in
+    let i = l .before .before in
     let a = i .before .before .before .args in
-    let e = k .locate .ensures .0 in
-    let r = ap (λ (v : Verdict). answer.Refused (v .status) (v .place)) e
-    ∙ other-refused (readMessage (now (a .bytes))) (λ z. c .before .if2 .taken (n .number .ensures ∙ ap (λ (v : Verdict). numberOf (v .status)) e ∙ z)) in
-    rw (c .refuse2 .ensures) (read-answered (now (a .bytes)) (now (a .«record»)) _ (i .if1 .left) (sym r))
+    let e = l .locate .ensures .0 in
+    let r = number-refused (readMessage (now (a .bytes))) (λ z. c .if2 .taken (ap (λ (n : ℕ). n % 256) e ∙ z)) in
+    rw (ap (λ (n : ℕ). n % 256) e ∙ r .low, ap (λ (n : ℕ). n / 256) e ∙ r .up)
+    (read-answered (now (a .bytes)) (now (a .«record»)) _ (i .if1 .left) (r .is))
 
-u8-at-requires : tie.Need-u8-at-requires
-u8-at-requires c κs = search needs
+cast-message-from : tie.Need-cast-message-from
+cast-message-from c =
+    let l = c .before .before in
+    let k = l .before .before .before .before in
+    let e = l .locate .ensures .0 in
+    let z = ap (λ (n : ℕ). n % 256) (sym e) ∙ c .before .if2 .left in
+    omega (arith, e, command-small _ (λ (i : ℕ). omega (arith, k .shared-slice-known .given i)) _ refl z)
 
 message-from-requires : tie.Need-message-from-requires
 message-from-requires c κs = search needs
@@ -61,17 +61,18 @@ returns-3 : tie.Need-returns-3
 returns-3 c =
     let w = c .before .before .before in
     let f = w .before in
-    let u = f .before .before in
-    let j = u .before .before in
-    let n = j .before in
-    let k = n .before in
-    let i = k .before .before in
-    let a = i .before .before .before .args in
+    let j = f .before .before .before in
+    let l = j .before in
+    let i = l .before .before in
+    let k = i .before .before in
+    let a = k .before .args in
     let s = now (a .bytes) in
-    let z = ap (λ (v : Verdict). numberOf (v .status)) (sym (k .locate .ensures .0)) ∙ sym (n .number .ensures) ∙ j .if2 .left in
-    let m = zero-accepted s z in
-    rw (c .accept .ensures, w .write .ensures, f .message-from .ensures, u .u8-at .ensures ∙ command-byte s)
-    (read-answered s (now (a .«record»)) _ (i .if1 .left) (m .1 ∙ ap answer.Accepted (k .locate .ensures .1 (m .0) (m .1))))
+    let e = l .locate .ensures in
+    let z = ap (λ (n : ℕ). n % 256) (sym (e .0)) ∙ j .if2 .left in
+    let m = f .message-from .ensures ∙ ap (messageFrom (l .locate .result / 256)) (e .1) ∙ ap (λ (n : ℕ). messageFrom (n / 256) (valuesAfter (readMessage s))) (e .0) in
+    rw (c .accept .ensures, w .write .ensures)
+    (read-answered s (now (a .«record»)) _ (i .if1 .left)
+    (sym (ap answer.Accepted m ∙ number-accepted s (λ (n : ℕ). omega (arith, k .shared-slice-known .given n)) (readMessage s) refl z)))
 
 pub read-spec : {M : Type 1} → statement M
 read-spec =
@@ -80,10 +81,9 @@ read-spec =
     refuse-requires
     returns
     locate-requires
-    number-requires
-    refuse-requires-2
+    cast-number
     returns-2
-    u8-at-requires
+    cast-message-from
     message-from-requires
     write-requires
     accept-requires

@@ -2,29 +2,32 @@
 use Prim.Native.Nat.{ℕ, zero, suc, _+_, _≤_, _<_}
 use mathlib.Core.Path.{_≡_, refl, sym, ap, _∙_, subst}
 use mathlib.Core.List.{List}
-use mathlib.Core.Bool.{true, false, not}
+use mathlib.Core.Bool.{true, false, not, cond}
 use mathlib.Core.Logic.{inl, inr}
 use native.Mathlib.Omega.{arith}
 use borrow.Author.Tests.{ltb-true, ltb-false, lt-ltb, le-ltb, eqb-true, eqb-false, eq-eqb, ne-eqb, not-true, not-false}
 use lib.Dec.{ltb, eqb}
 use lib.ListN.{length, getD}
+use Rattle.wire.specs.Checks.{firstOf, accepted}
 use Rattle.wire.specs.Status.{numberOf}
 use Rattle.wire.specs.declared.status.Status.{Status}
 use Rattle.wire.specs.declared.status.Status.the-variants as status
+use Rattle.message_rules.specs.declared.record.Field.{Field}
 use Rattle.message_rules.specs.declared.record.Message.{Message}
 use Rattle.message_reader.specs.declared.Answer.{Answer}
 use Rattle.message_reader.specs.declared.Answer.the-variants as answer
-use Rattle.message_reader.specs.declared.Header.{Header}
-use Rattle.message_reader.specs.declared.Header.the-variants as header
+use Rattle.message_reader.specs.declared.header.Header.{Header}
+use Rattle.message_reader.specs.declared.header.Header.the-variants as header
+use Rattle.message_reader.specs.declared.tlv.Tlv.{Tlv}
+use Rattle.message_reader.specs.declared.tlv.Tlv.the-variants as tlv
 use Rattle.message_rules.specs.Rules.{roleOf, foreign, needed, lengthOk, knownCommand}
 use Rattle.message_rules.specs.Record.{fieldOf, withField, emptyOf}
-use Rattle.message_reader.specs.Reading.{sizeIn, versionIn, commandIn, headerOf, typeAt, lengthAt, nextAt, valueAt, tlvAt}
-use Rattle.message_reader.specs.Reading.{Step, hasNeeded, isComplete, lastOf, goOn, tlvsFrom, afterHeader, readMessage}
-use Rattle.message_reader.specs.Checking.{verdictOf, IsAccepted}
+use Rattle.message_reader.specs.Reading.{sizeIn, versionIn, commandIn, headerChecks, headerOf, typeAt, lengthAt, nextAt, valueAt, tlvChecks, tlvAt}
+use Rattle.message_reader.specs.Reading.{hasNeeded, isComplete, lastOf, goOn, tlvsFrom, afterHeader, readMessage}
 use Rattle.message_reader.specs.Theorems.{Headed, RightTlv, Reached, Fault, Refusal, Acceptance, RefusedExactly, AcceptedExactly}
-use Rattle.message_reader.specs.Reading as step
 use Rattle.message_reader.specs.Theorems as given
-use Rattle.wire.proofs.Laws.Bool.{impossible, by-test, not-both}
+use Rattle.wire.proofs.Laws.Bool.{by-test, not-both}
+use Rattle.wire.proofs.Laws.Checks.{by-check, by-last-check}
 use Rattle.wire.proofs.Laws.Number.{number-small}
 use Rattle.message_rules.proofs.Laws.Rules.{type-small}
 use Rattle.wire.proofs.Laws.Below.{below-all, all-below, one-below, one-fails}
@@ -32,32 +35,38 @@ use Rattle.wire.proofs.Laws.Below.{below-all, all-below, one-below, one-fails}
 -- ---- one TLV
 
 -- what an answer to a TLV says
-abbrev pub OfStep : List ℕ → ℕ → Message → Step → Type 0
-OfStep s at m (step.Known n m') = RightTlv s at m × (n ≡ nextAt s at) × (m' ≡ withField m (typeAt s at) (valueAt s at))
-OfStep s at m (step.Refused st place) = Fault s at m st × (place ≡ at)
+abbrev pub OfTlv : List ℕ → ℕ → Message → Tlv → Type 0
+OfTlv s at m (tlv.Right t n) = RightTlv s at m × (t ≡ typeAt s at) × (n ≡ lengthAt s at)
+OfTlv s at m (tlv.Refused st) = Fault s at m st
 
-pub of-step : (s : List ℕ) (at : ℕ) (m : Message) → OfStep s at m (tlvAt s at m)
-unfolding tlvAt
-of-step s at m =
+-- what the first refusal of its checks says
+abbrev AtTlv : List ℕ → ℕ → Message → Status → Type 0
+AtTlv s at m st = OfTlv s at m (cond (accepted st) (tlv.Right (typeAt s at) (lengthAt s at)) (tlv.Refused st))
+
+at-tlv : (s : List ℕ) (at : ℕ) (m : Message) → AtTlv s at m (firstOf (tlvChecks s at m))
+at-tlv s at m =
     let t = typeAt s at in
-    let P = OfStep s at m in
-    by-test P (ltb (length s) (at + 3)) _ _ (λ e. (given.truncated (inl (ltb-true (length s) (at + 3) e)), refl))
-    (λ a. by-test P (ltb (length s) (nextAt s at)) _ _ (λ e. (given.truncated (inr (ltb-true (length s) (nextAt s at) e)), refl))
+    let P = AtTlv s at m in
+    by-check P status.TlvTruncated _ _ (λ e. given.truncated (inl (ltb-true (length s) (at + 3) e)))
+    (λ a.
+    by-check P status.TlvTruncated _ _ (λ e. given.truncated (inr (ltb-true (length s) (nextAt s at) e)))
     (λ b.
     let whole = ltb-false (length s) (nextAt s at) b in
-    by-test P (eqb (roleOf (m .command) t) foreign) _ _ (λ e. (given.unexpected whole (eqb-true (roleOf (m .command) t) foreign e), refl))
+    by-check P status.TlvUnexpected _ _ (λ e. given.unexpected whole (eqb-true (roleOf (m .command) t) foreign e))
     (λ d.
     let own = eqb-false (roleOf (m .command) t) foreign d in
-    by-test P (not (lengthOk t (lengthAt s at))) _ _ (λ e. (given.length-wrong whole own (not-true (lengthOk t (lengthAt s at)) e), refl))
+    by-check P status.TlvLength _ _ (λ e. given.length-wrong whole own (not-true (lengthOk t (lengthAt s at)) e))
     (λ l.
     let fits = not-false (lengthOk t (lengthAt s at)) l in
-    by-test P (fieldOf m t .present) _ _ (λ e. (given.repeated whole own fits e, refl))
+    by-last-check P status.TlvRepeated _ (λ e. given.repeated whole own fits e)
     (λ f. (record { whole = whole; expected = own; fitting = fits; first = f }, refl, refl))))))
 
-pub tlv-taken
-    : (s : List ℕ) (at : ℕ) (m : Message) → RightTlv s at m
-    → tlvAt s at m ≡ step.Known (nextAt s at) (withField m (typeAt s at) (valueAt s at))
+pub of-tlv : (s : List ℕ) (at : ℕ) (m : Message) → OfTlv s at m (tlvAt s at m)
 unfolding tlvAt
+of-tlv s at m = at-tlv s at m
+
+pub tlv-taken : (s : List ℕ) (at : ℕ) (m : Message) → RightTlv s at m → tlvAt s at m ≡ tlv.Right (typeAt s at) (lengthAt s at)
+unfolding firstOf tlvAt
 tlv-taken s at m k =
     simp (
       le-ltb (length s) (at + 3) (omega (arith, k .whole)),
@@ -67,11 +76,12 @@ tlv-taken s at m k =
       k .first,
     )
 
-tlv-refused : (s : List ℕ) (at : ℕ) (m : Message) (st : Status) → Fault s at m st → tlvAt s at m ≡ step.Refused st at
-unfolding tlvAt
+pub tlv-refused : (s : List ℕ) (at : ℕ) (m : Message) (st : Status) → Fault s at m st → tlvAt s at m ≡ tlv.Refused st
+unfolding firstOf tlvAt
 tlv-refused s at m st (given.truncated (inl h)) = simp (lt-ltb (length s) (at + 3) h)
 tlv-refused s at m st (given.truncated (inr h)) =
-    by-test (λ x. x ≡ step.Refused status.TlvTruncated at) (ltb (length s) (at + 3)) _ _ (λ e. refl) (λ e. simp (lt-ltb (length s) (nextAt s at) h))
+    by-test (λ (x : Status). cond (accepted x) (tlv.Right (typeAt s at) (lengthAt s at)) (tlv.Refused x) ≡ tlv.Refused status.TlvTruncated)
+    (ltb (length s) (at + 3)) _ _ (λ e. refl) (λ e. simp (lt-ltb (length s) (nextAt s at) h))
 tlv-refused s at m st (given.unexpected w r) =
     simp (le-ltb (length s) (at + 3) (omega (arith, w)), le-ltb (length s) (nextAt s at) w, r)
 tlv-refused s at m st (given.length-wrong w r l) =
@@ -92,52 +102,32 @@ tlv-refused s at m st (given.repeated w r l f) =
 
 -- ---- the TLVs from a place on: with as many steps as bytes are left, the number of steps does not matter
 
+-- the value of n bytes of the TLV at `at`
+abbrev pub value : ℕ → ℕ → Field
+value at n = record { present = true; at = at + 3; len = n }
+
 pub tlvs-known
-    : (k : ℕ) (s : List ℕ) (at : ℕ) (m : Message) (n : ℕ) (m' : Message) → at < length s → length s ≤ at + k → tlvAt s at m ≡ step.Known n m'
-    → (j : ℕ) × (at < n) × (n ≤ length s) × (length s ≤ n + j) × (tlvsFrom j s n m' ≡ tlvsFrom k s at m)
+    : (k : ℕ) (s : List ℕ) (at : ℕ) (m : Message) (t n : ℕ) → at < length s → length s ≤ at + k → tlvAt s at m ≡ tlv.Right t n
+    → (j : ℕ) × (at + 3 + n ≤ length s) × (length s ≤ at + 3 + n + j) × (tlvsFrom j s (at + 3 + n) (withField m t (value at n)) ≡ tlvsFrom k s at m)
 unfolding tlvsFrom
-tlvs-known zero s at m n m' h f e = absurd (let no : ⊥ = omega arith in no)
-tlvs-known (suc k) s at m n m' h f e =
-    let p = subst (OfStep s at m) e (of-step s at m) in
+tlvs-known zero s at m t n h f e = absurd (let no : ⊥ = omega arith in no)
+tlvs-known (suc k) s at m t n h f e =
+    let p = subst (OfTlv s at m) e (of-tlv s at m) in
     let w = p .0 .whole in
-    let q = p .1 in
-    (k, omega (arith, q), omega (arith, w, q), omega (arith, q), simp (lt-ltb at (length s) h, e))
+    let q = p .2 in
+    (k, omega arith, omega arith, simp (lt-ltb at (length s) h, e))
 
 pub tlvs-refused
-    : (k : ℕ) (s : List ℕ) (at : ℕ) (m : Message) (st : Status) (place : ℕ) → at < length s → length s ≤ at + k
-    → tlvAt s at m ≡ step.Refused st place → answer.Refused st place ≡ tlvsFrom k s at m
+    : (k : ℕ) (s : List ℕ) (at : ℕ) (m : Message) (st : Status) → at < length s → length s ≤ at + k → tlvAt s at m ≡ tlv.Refused st
+    → answer.Refused st at ≡ tlvsFrom k s at m
 unfolding tlvsFrom
-tlvs-refused zero s at m st place h f e = absurd (let no : ⊥ = omega arith in no)
-tlvs-refused (suc k) s at m st place h f e = simp (lt-ltb at (length s) h, e)
+tlvs-refused zero s at m st h f e = absurd (let no : ⊥ = omega arith in no)
+tlvs-refused (suc k) s at m st h f e = simp (lt-ltb at (length s) h, e)
 
 pub tlvs-end : (k : ℕ) (s : List ℕ) (at : ℕ) (m : Message) → length s ≤ at → lastOf (length s) m ≡ tlvsFrom k s at m
 unfolding tlvsFrom
 tlvs-end zero s at m h = refl
 tlvs-end (suc k) s at m h = simp (le-ltb at (length s) h)
-
-clash : {A : Type 0} {st : Status} {place : ℕ} {m : Message} → answer.Refused st place ≡ answer.Accepted m → A
-clash e = impossible (cc)
-
--- Where a message is accepted, the TLV at each place is right.
-abbrev Goes : ℕ → List ℕ → ℕ → Message → Type 0
-Goes k s at m =
-    RightTlv s at m × (j : ℕ) × (length s ≤ nextAt s at + j)
-    × (tlvsFrom j s (nextAt s at) (withField m (typeAt s at) (valueAt s at)) ≡ tlvsFrom k s at m)
-
-goes
-    : (k : ℕ) (s : List ℕ) (at : ℕ) (m m' : Message) → at < length s → length s ≤ at + k → tlvsFrom k s at m ≡ answer.Accepted m'
-    → (x : Step) → tlvAt s at m ≡ x → OfStep s at m x → Goes k s at m
-goes k s at m m' h f e (step.Known n m'') q p =
-    let t = tlvs-known k s at m _ _ h f (tlv-taken s at m (p .0)) in (p .0, t .0, t .3, t .4)
-goes k s at m m' h f e (step.Refused st place) q p = clash (tlvs-refused k s at m st place h f q ∙ e)
-
-pub tlvs-accepted
-    : (k : ℕ) (s : List ℕ) (at : ℕ) (m m' : Message) → at < length s → length s ≤ at + k → tlvsFrom k s at m ≡ answer.Accepted m' → Goes k s at m
-tlvs-accepted k s at m m' h f e = goes k s at m m' h f e (tlvAt s at m) refl (of-step s at m)
-
-pub last-accepted : (n : ℕ) (m m' : Message) → lastOf n m ≡ answer.Accepted m' → answer.Accepted m ≡ lastOf n m
-unfolding lastOf
-last-accepted n m m' = by-test (λ x. x ≡ answer.Accepted m' → answer.Accepted m ≡ x) (isComplete m) _ _ (λ e f. refl) (λ e f. clash f)
 
 -- ---- the whole message
 
@@ -176,13 +166,13 @@ of-last s m h r =
     (λ e. record { headed = h; reached = r; complete = λ t n. has-needed m t (below-all (hasNeeded m) 8 e t (role-needed (m .command) t n)) n })
     (λ e. let f = one-fails (hasNeeded m) 8 e in let g = has-none m (f .0) (f .2) in given.missing (f .0) h r (g .0) (g .1))
 
-after-step
+after-tlv
     : (s : List ℕ) (at : ℕ) (m : Message) (k : ℕ) → Headed s → Reached s at m → at < length s → length s ≤ at + suc k
     → ((n : ℕ) (m' : Message) → Reached s n m' → n ≤ length s → length s ≤ n + k → OfAnswer s (tlvsFrom k s n m'))
-    → (x : Step) → OfStep s at m x → OfAnswer s (goOn (tlvsFrom k s) x)
-after-step s at m k h r a f go (step.Known n m') p =
+    → (x : Tlv) → OfTlv s at m x → OfAnswer s (goOn (tlvsFrom k s) at m x)
+after-tlv s at m k h r a f go (tlv.Right t n) p =
     rw (p .1, p .2) (go (nextAt s at) (withField m (typeAt s at) (valueAt s at)) (given.next r (p .0)) (p .0 .whole) (omega arith))
-after-step s at m k h r a f go (step.Refused st place) p = rw (p .1) (given.tlv h r a (p .0))
+after-tlv s at m k h r a f go (tlv.Refused st) p = given.tlv h r a p
 
 of-tlvs
     : (s : List ℕ) → Headed s → (k : ℕ) (at : ℕ) (m : Message) → Reached s at m → at ≤ length s → length s ≤ at + k
@@ -191,7 +181,7 @@ unfolding tlvsFrom
 of-tlvs s h zero at m r a f = let e : at ≡ length s = omega arith in of-last s m h (subst (λ (i : ℕ). Reached s i m) e r)
 of-tlvs s h (suc k) at m r a f =
     by-test (OfAnswer s) (ltb at (length s)) _ _
-    (λ e. after-step s at m k h r (ltb-true at (length s) e) f (of-tlvs s h k) (tlvAt s at m) (of-step s at m))
+    (λ e. after-tlv s at m k h r (ltb-true at (length s) e) f (of-tlvs s h k) (tlvAt s at m) (of-tlv s at m))
     (λ e. let b = ltb-false at (length s) e in let q : at ≡ length s = omega arith in of-last s m h (subst (λ (i : ℕ). Reached s i m) q r))
 
 -- what the header's answer says
@@ -199,26 +189,33 @@ abbrev OfHeader : List ℕ → Header → Type 0
 OfHeader s (header.Command c) = Headed s × (c ≡ commandIn s)
 OfHeader s (header.Refused st) = Refusal s st 0
 
-of-header : (s : List ℕ) → OfHeader s (headerOf s)
-unfolding headerOf
-of-header s =
-    let P = OfHeader s in
-    by-test P (ltb (length s) 4) _ _ (λ e. given.before-header (ltb-true (length s) 4 e))
+-- what the first refusal of its checks says
+abbrev AtHeader : List ℕ → Status → Type 0
+AtHeader s st = OfHeader s (cond (accepted st) (header.Command (commandIn s)) (header.Refused st))
+
+at-header : (s : List ℕ) → AtHeader s (firstOf (headerChecks s))
+at-header s =
+    let P = AtHeader s in
+    by-check P status.Truncated _ _ (λ e. given.before-header (ltb-true (length s) 4 e))
     (λ a.
     let four = ltb-false (length s) 4 a in
-    by-test P (ltb (sizeIn s) 4) _ _ (λ e. given.below-header four (ltb-true (sizeIn s) 4 e))
+    by-check P status.WrongSize _ _ (λ e. given.below-header four (ltb-true (sizeIn s) 4 e))
     (λ b.
     let size = ltb-false (sizeIn s) 4 b in
-    by-test P (ltb (length s) (sizeIn s)) _ _ (λ e. given.before-size four size (ltb-true (length s) (sizeIn s) e))
+    by-check P status.Truncated _ _ (λ e. given.before-size four size (ltb-true (length s) (sizeIn s) e))
     (λ d.
-    by-test P (ltb (sizeIn s) (length s)) _ _ (λ e. given.left-over size (ltb-true (sizeIn s) (length s) e))
+    by-check P status.WrongSize _ _ (λ e. given.left-over size (ltb-true (sizeIn s) (length s) e))
     (λ l.
     let all : sizeIn s ≡ length s = omega (arith, ltb-false (length s) (sizeIn s) d, ltb-false (sizeIn s) (length s) l) in
-    by-test P (not (eqb (versionIn s) 1)) _ _ (λ e. given.version four all (eqb-false (versionIn s) 1 (not-true (eqb (versionIn s) 1) e)))
+    by-check P status.WrongHeader _ _ (λ e. given.version four all (eqb-false (versionIn s) 1 (not-true (eqb (versionIn s) 1) e)))
     (λ v.
     let one = eqb-true (versionIn s) 1 (not-false (eqb (versionIn s) 1) v) in
-    by-test P (not (knownCommand (commandIn s))) _ _ (λ e. given.command four all one (not-true (knownCommand (commandIn s)) e))
+    by-last-check P status.UnknownKind _ (λ e. given.command four all one (not-true (knownCommand (commandIn s)) e))
     (λ k. (record { four = four; size = all; version = one; command = not-false (knownCommand (commandIn s)) k }, refl)))))))
+
+of-header : (s : List ℕ) → OfHeader s (headerOf s)
+unfolding headerOf
+of-header s = at-header s
 
 -- a header that gives a command is right, and the command is the one that stands there
 pub header-command : (s : List ℕ) (c : ℕ) → headerOf s ≡ header.Command c → Headed s × (c ≡ commandIn s)
@@ -246,7 +243,7 @@ of-read s = after-header s (headerOf s) (of-header s)
 
 -- a right header leaves the TLVs to be read
 pub headed-read : (s : List ℕ) → Headed s → readMessage s ≡ tlvsFrom (length s) s 4 (emptyOf (commandIn s))
-unfolding readMessage headerOf
+unfolding readMessage firstOf headerOf
 headed-read s h =
     let e = h .size in
     let f = h .four in
@@ -260,10 +257,10 @@ reached-rest s at m f given.start = (length s, f, omega arith, refl)
 reached-rest s at m f (given.next r t) =
     let b = reached-rest s _ _ f r in
     let q = tlvs-known (b .0) s _ _ _ _ (let w = t .whole in omega arith) (b .2) (tlv-taken s _ _ t) in
-    (q .0, q .2, q .3, q .4 ∙ b .3)
+    (q .0, q .1, q .2, q .3 ∙ b .3)
 
 refused : (s : List ℕ) (st : Status) (place : ℕ) → Refusal s st place → readMessage s ≡ answer.Refused st place
-unfolding readMessage headerOf lastOf isComplete
+unfolding readMessage firstOf headerOf lastOf isComplete
 refused s st place (given.before-header h) = simp (lt-ltb (length s) 4 h)
 refused s st place (given.before-size a b h) = simp (le-ltb (length s) 4 a, le-ltb (sizeIn s) 4 b, lt-ltb (length s) (sizeIn s) h)
 refused s st place (given.below-header a h) = simp (le-ltb (length s) 4 a, lt-ltb (sizeIn s) 4 h)
@@ -273,15 +270,15 @@ refused s st place (given.version a e h) = simp (le-ltb (length s) 4 a, e, le-lt
 refused s st place (given.command a e v h) = simp (le-ltb (length s) 4 a, e, le-ltb (length s) (length s) (omega arith), v, h)
 refused s st place (given.tlv {m = m} h r a f) =
     let b = reached-rest s place m (h .four) r in
-    headed-read s h ∙ sym (b .3) ∙ sym (tlvs-refused (b .0) s place m st place a (b .2) (tlv-refused s place m st f))
+    headed-read s h ∙ sym (b .3) ∙ sym (tlvs-refused (b .0) s place m st a (b .2) (tlv-refused s place m st f))
 refused s st place (given.missing {m = m} t h r n g) =
     let b = reached-rest s (length s) m (h .four) r in
     headed-read s h ∙ sym (b .3) ∙ sym (tlvs-end (b .0) s (length s) m (omega arith))
     ∙ simp (one-below (hasNeeded m) 8 t (role-needed (m .command) t n) (lacks m t n g))
 
-accepted : (s : List ℕ) (m : Message) → Acceptance s m → readMessage s ≡ answer.Accepted m
+accepts : (s : List ℕ) (m : Message) → Acceptance s m → readMessage s ≡ answer.Accepted m
 unfolding lastOf isComplete
-accepted s m k =
+accepts s m k =
     let b = reached-rest s (length s) m (k .headed .four) (k .reached) in
     headed-read s (k .headed) ∙ sym (b .3) ∙ sym (tlvs-end (b .0) s (length s) m (omega arith))
     ∙ simp (all-below (hasNeeded m) 8 (λ t h. needed-has m t (k .complete t)))
@@ -292,12 +289,10 @@ refused-exactly s st place = (λ e. subst (OfAnswer s) e (of-read s), refused s 
 
 pub accepted-exactly : AcceptedExactly
 unfolding AcceptedExactly
-accepted-exactly s m = (λ e. subst (OfAnswer s) e (of-read s), accepted s m)
+accepted-exactly s m = (λ e. subst (OfAnswer s) e (of-read s), accepts s m)
 
 pub accepted-headed : (s : List ℕ) (m : Message) → readMessage s ≡ answer.Accepted m → Headed s
 accepted-headed s m e = subst (OfAnswer s) e (of-read s) .headed
-
--- ---- the check
 
 -- no refusal has the number 0
 fault-number : (s : List ℕ) (at : ℕ) (m : Message) (st : Status) → Fault s at m st → numberOf st ≡ 0 → ⊥
@@ -306,7 +301,7 @@ fault-number s at m st (given.unexpected w r) e = omega arith
 fault-number s at m st (given.length-wrong w r l) e = omega arith
 fault-number s at m st (given.repeated w r l f) e = omega arith
 
-refusal-number : (s : List ℕ) (st : Status) (place : ℕ) → Refusal s st place → numberOf st ≡ 0 → ⊥
+pub refusal-number : (s : List ℕ) (st : Status) (place : ℕ) → Refusal s st place → numberOf st ≡ 0 → ⊥
 refusal-number s st place (given.before-header h) e = omega arith
 refusal-number s st place (given.before-size a b h) e = omega arith
 refusal-number s st place (given.below-header a h) e = omega arith
@@ -315,14 +310,3 @@ refusal-number s st place (given.version a b h) e = omega arith
 refusal-number s st place (given.command a b v h) e = omega arith
 refusal-number s st place (given.tlv {m = m} h r a f) e = fault-number s place m st f e
 refusal-number s st place (given.missing t h r n g) e = omega arith
-
-is-accepted : (s : List ℕ) (a : Answer) → OfAnswer s a → numberOf (verdictOf a .status) ≡ 0 → IsAccepted a
-is-accepted s (answer.Accepted m) p e = (m, refl)
-is-accepted s (answer.Refused st place) p e = absurd (refusal-number s st place p e)
-
-pub zero-accepted : (s : List ℕ) → numberOf (verdictOf (readMessage s) .status) ≡ 0 → IsAccepted (readMessage s)
-zero-accepted s e = is-accepted s (readMessage s) (of-read s) e
-
-pub other-refused : (a : Answer) → (numberOf (verdictOf a .status) ≡ 0 → ⊥) → answer.Refused (verdictOf a .status) (verdictOf a .place) ≡ a
-other-refused (answer.Accepted m) n = absurd (n refl)
-other-refused (answer.Refused st place) n = refl

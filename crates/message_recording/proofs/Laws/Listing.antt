@@ -3,7 +3,6 @@ use Prim.Native.Nat.{ℕ, zero, suc, _+_, _≤_, _<_}
 use mathlib.Core.Path.{_≡_, refl, ap, _∙_}
 use mathlib.Core.List.{List, [], _∷_, _++_}
 use native.Mathlib.Omega.{arith}
-use borrow.Author.Tests.{le-ltb}
 use lib.ListN.{length, drop, length-append, length-drop}
 use lib.Seq.{drop-append-seam, take-length}
 use Rattle.message_rules.specs.declared.record.Message.{Message}
@@ -20,7 +19,7 @@ use Rattle.message_recording.specs.Listing.{linesAfter, linesFrom, lines
 use Rattle.message_recording.specs.Theorems.{ReadSoFarDecides, MessageExactly, EndExactly}
 use Rattle.message_recording.specs.Theorems.{Listed, RecordingListed, joined, AllAccepted, linesOf, MessagesListed, EndListed}
 use Rattle.message_recording.specs.Theorems as given
-use Rattle.message_recording.proofs.Laws.Line.{read-so-far-decides, message-exactly, end-exactly}
+use Rattle.message_recording.proofs.Laws.Line.{needed-size, read-so-far-decides, message-exactly, end-exactly}
 
 -- a message that is shown has four bytes or more, and all of them are there
 pub message-size : (s : List ℕ) (c n : ℕ) → lineOf s ≡ line.Message c n → (4 ≤ n) × (n ≤ length s)
@@ -75,7 +74,7 @@ same-lines (suc k) (suc j) place s h l =
 accepted-line
     : (m t : List ℕ) (r : Message) → readMessage m ≡ answer.Accepted r
     → (4 ≤ length m) × (lineOf (m ++ t) ≡ line.Message (commandIn m) (length m))
-unfolding AcceptedExactly AcceptedWellFormed MessageExactly ReadSoFarDecides neededOf
+unfolding AcceptedExactly AcceptedWellFormed MessageExactly ReadSoFarDecides
 accepted-line m t r e =
     let a = accepted-exactly m r .0 e in
     let w = accepted-well-formed m r e in
@@ -83,7 +82,8 @@ accepted-line m t r e =
     let alone : lineOf m ≡ line.Message (commandIn m) (length m)
     = message-exactly m (commandIn m) (length m) .1 r
     (record { size = w .size; four = four; there = omega arith; accepted = rw (take-length m) e; command = w .command }) in
-    let need : neededOf m ≤ length m = simp (le-ltb (length m) 4 four, w .size) (omega arith) in
+    let size = w .size in
+    let need : neededOf m ≤ length m = (let n = needed-size m four (omega arith) in omega arith) in
     (four, read-so-far-decides m t need ∙ alone)
 
 lines-message

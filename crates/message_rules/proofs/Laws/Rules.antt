@@ -1,14 +1,14 @@
 -- Laws of the two tables: each is a fact of every row. Assumes nothing.
 use Prim.Native.Nat.{ℕ, zero, suc, _%_, _≤_, _<_}
 use mathlib.Core.Path.{_≡_, refl, ap, _∙_}
-use mathlib.Core.List.{List, [], _∷_}
-use mathlib.Core.Bool.{Bool, true, false, not, _&&_}
+use mathlib.Core.List.{List}
+use mathlib.Core.Bool.{true, false, _&&_}
 use native.Mathlib.Omega.{arith}
 use native.Mathlib.Decide.{decLt}
-use borrow.Author.Tests.{leb-true, eqb-false, not-true}
+use borrow.Author.Tests.{leb-true, eqb-false}
 use lib.Dec.{leb, eqb}
 use lib.ListN.{length, getD, List·getD-eq-default}
-use Rattle.message_rules.specs.Rules.{foreign, seen, noRoles, entryOf, rolesOf, roleOf, noLengths, lengthsOf, lengthOk}
+use Rattle.message_rules.specs.Rules.{foreign, noRoles, rolesOf, roleOf, noLengths, lengthsOf, lengthOk}
 use Rattle.wire.proofs.Laws.Bool.{both}
 
 -- what holds of every row of the table, and of no command, holds of every command
@@ -43,22 +43,6 @@ eight-columns c = rows (λ (r : List ℕ). length r ≡ 8) refl refl refl refl r
 pub no-type : (c t : ℕ) → 7 < t → roleOf c t ≡ foreign
 unfolding roleOf
 no-type c t h = List·getD-eq-default (rolesOf c) foreign {n = t} (omega (arith, eight-columns c))
-
--- no role is the number that stands for a type that was there
-none-seen : List ℕ → Bool
-none-seen [] = true
-none-seen (x ∷ r) = not (eqb x seen) && none-seen r
-
-entry-not-seen : (r : List ℕ) (t : ℕ) → none-seen r ≡ true → eqb (entryOf r t) seen ≡ false
-unfolding none-seen
-entry-not-seen [] t h = refl
-entry-not-seen (x ∷ r) zero h = not-true (eqb x seen) (both (not (eqb x seen)) (none-seen r) h .0)
-entry-not-seen (x ∷ r) (suc t) h = entry-not-seen r t (both (not (eqb x seen)) (none-seen r) h .1)
-
-pub role-not-seen : (c t : ℕ) → eqb (roleOf c t) seen ≡ false
-unfolding roleOf rolesOf none-seen
-role-not-seen c t =
-    entry-not-seen (rolesOf c) t (rows (λ (r : List ℕ). none-seen r ≡ true) refl refl refl refl refl refl refl c)
 
 -- there is no type 1
 pub no-type-1 : (c : ℕ) → roleOf c 1 ≡ foreign

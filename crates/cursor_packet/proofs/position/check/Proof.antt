@@ -1,6 +1,6 @@
 -- Each return gives the refusal of the first check in the list whose condition holds there. Assumes nothing.
 use borrow.Author.Tests.{lt-ltb, le-ltb, eq-eqb, ne-eqb}
-use Rattle.cursor_packet.specs.Checks.{firstOf}
+use Rattle.wire.specs.Checks.{firstOf}
 use Rattle.cursor_packet.specs.Frame.{frameChecks}
 use Rattle.cursor_packet.specs.Position.{positionChecks}
 use borrow.Author.Needs.{needs}

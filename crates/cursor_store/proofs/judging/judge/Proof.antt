@@ -5,7 +5,7 @@ use lib.ListN.{length}
 use denote.Ref.{now}
 use borrow.Author.Tests.{not-false}
 use borrow.Author.Needs.{needs}
-use Rattle.cursor_packet.specs.Checks.{firstOf}
+use Rattle.wire.specs.Checks.{firstOf}
 use Rattle.cursor_picture.proofs.Laws.Picture.{room-says}
 use Rattle.cursor_store.specs.Judging.{judging}
 use Rattle.cursor_store.proofs.judging.judge.Statement.{statement}

@@ -5,7 +5,7 @@ use denote.Ref.{now}
 use borrow.Author.Tests.{eq-eqb, ne-eqb}
 use borrow.Author.Needs.{needs}
 use Rattle.wire.specs.declared.status.Status.the-variants as status
-use Rattle.cursor_packet.specs.Checks.{firstOf}
+use Rattle.wire.specs.Checks.{firstOf}
 use Rattle.cursor_store.specs.Judging.{bytesDiffer, openedRules}
 use Rattle.cursor_store.proofs.judging.judge_opened.Statement.{statement}
 use Rattle.cursor_store.proofs.judging.judge_opened.Tie as tie

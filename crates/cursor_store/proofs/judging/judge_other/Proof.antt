@@ -3,7 +3,7 @@ use mathlib.Core.Path.{_≡_, sym, _∙_}
 use mathlib.Core.Bool.{true, false}
 use borrow.Author.Needs.{needs}
 use Rattle.wire.specs.declared.status.Status.the-variants as status
-use Rattle.cursor_packet.specs.Checks.{firstOf}
+use Rattle.wire.specs.Checks.{firstOf}
 use Rattle.cursor_store.specs.Judging.{opens, otherRules}
 use Rattle.cursor_store.proofs.judging.judge_other.Statement.{statement}
 use Rattle.cursor_store.proofs.judging.judge_other.Tie as tie

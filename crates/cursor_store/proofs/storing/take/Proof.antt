@@ -4,7 +4,7 @@ use native.Mathlib.Omega.{arith}
 use lib.ListN.{length}
 use denote.Ref.{now}
 use borrow.Author.Tests.{eq-eqb, ne-eqb}
-use Rattle.cursor_packet.specs.Checks.{accepted}
+use Rattle.wire.specs.Checks.{accepted}
 use Rattle.cursor_picture.proofs.Laws.Picture.{room-says}
 use Rattle.cursor_store.specs.Storing.{imageAfter, marksAfter, pictureAfter}
 use Rattle.cursor_store.specs.Assembling.{fragmentAssembled, assembledAs}

@@ -1,14 +1,11 @@
 -- Each arm is the table's entry for its value; the last is that for 15. Assumes nothing.
-use Prim.Native.Nat.{ℕ, _+_, _≤_, _<_}
+use Prim.Native.Nat.{ℕ, _≤_, _<_}
 use mathlib.Core.Path.{_≡_, sym, ap}
 use native.Mathlib.Omega.{arith}
 use Rattle.text.specs.Hex.{digitOf}
+use Rattle.wire.proofs.Laws.Count.{past}
 use Rattle.text.proofs.hex.capital_digit.Statement.{statement}
 use Rattle.text.proofs.hex.capital_digit.Tie as tie
-
--- five numbers in a row are ruled out (`omega` takes six such facts at most)
-past : (n v : ℕ) → n ≤ v → (v ≡ n → ⊥) → (v ≡ n + 1 → ⊥) → (v ≡ n + 2 → ⊥) → (v ≡ n + 3 → ⊥) → (v ≡ n + 4 → ⊥) → n + 5 ≤ v
-past n v l a b c d e = omega arith
 
 last : (v : ℕ) → v < 16 → 15 ≤ v → v ≡ 15
 last v h l = omega arith
