@@ -1,10 +1,11 @@
 -- A record and its values: each determines the other. Assumes nothing.
-use Prim.Native.Nat.{ℕ, zero, suc, _+_, _*_, _/_, _%_, _<_}
+use Prim.Native.Nat.{ℕ, _+_, _*_, _/_, _%_, _<_}
 use mathlib.Core.Path.{_≡_, refl, sym, ap, _∙_, subst}
 use mathlib.Core.List.{List}
 use mathlib.Core.Bool.{true, false, not}
 use mathlib.Core.Logic.{⊎-elim}
 use native.Mathlib.Omega.{arith}
+use native.Mathlib.Decide.{decLt}
 use borrow.Author.Tests.{eq-eqb, ne-eqb, eqb-true}
 use lib.Dec.{eqb}
 use lib.ListN.{length, getD, set, length-set, List·getD-eq-default}
@@ -15,7 +16,7 @@ use Rattle.message_rules.specs.declared.record.Message.{Message}
 use Rattle.message_rules.specs.Rules.{roleOf, foreign, needed}
 use Rattle.message_rules.specs.Record.{fieldOf, withField, emptyOf}
 use Rattle.message_rules.proofs.Laws.Rules.{type-small, type-not-1}
-use Rattle.message_rules.proofs.Laws.Record.{past, field-with}
+use Rattle.message_rules.proofs.Laws.Record.{each-type, past, field-with}
 use Rattle.message_reader.specs.Reading.{hasNeeded}
 use Rattle.message_reader.specs.Values.{none, high, fieldFrom, messageFrom, valueNumber, valuesOf}
 use Rattle.message_reader.proofs.Laws.Reading.{value}
@@ -40,15 +41,9 @@ number-back v =
 -- a type that there is has the field of its number
 pub field-found : (c : ℕ) (values : List ℕ) (t : ℕ) → t < 8 → (t ≡ 1 → ⊥) → fieldOf (messageFrom c values) t ≡ fieldFrom (getD values t 0)
 unfolding fieldOf messageFrom
-field-found c values zero h k = refl
-field-found c values (suc zero) h k = absurd (k refl)
-field-found c values (suc (suc zero)) h k = refl
-field-found c values (suc (suc (suc zero))) h k = refl
-field-found c values (suc (suc (suc (suc zero)))) h k = refl
-field-found c values (suc (suc (suc (suc (suc zero))))) h k = refl
-field-found c values (suc (suc (suc (suc (suc (suc zero)))))) h k = refl
-field-found c values (suc (suc (suc (suc (suc (suc (suc zero))))))) h k = refl
-field-found c values (suc (suc (suc (suc (suc (suc (suc (suc t)))))))) h k = absurd (let no : ⊥ = omega arith in no)
+field-found c values =
+    each-type (λ (t : ℕ). (t ≡ 1 → ⊥) → fieldOf (messageFrom c values) t ≡ fieldFrom (getD values t 0))
+    (λ n. refl) (λ n. absurd (n refl)) (λ n. refl) (λ n. refl) (λ n. refl) (λ n. refl) (λ n. refl) (λ n. refl)
 
 -- a record whose fields are those of the values
 found-all : (m : Message) (values : List ℕ) → ((t : ℕ) → fieldOf m t ≡ fieldFrom (getD values t 0)) → m ≡ messageFrom (m .command) values
@@ -72,34 +67,24 @@ module _ (c : ℕ) (values : List ℕ) (g : Eight values) where
   -- each type has the field of its number
   all-found : (t : ℕ) → fieldOf (messageFrom c values) t ≡ fieldFrom (getD values t 0)
   unfolding fieldOf messageFrom fieldFrom
-  all-found (suc zero) = rw (g .no-1)
-  all-found (suc (suc (suc (suc (suc (suc (suc (suc t)))))))) =
-      let u = suc (suc (suc (suc (suc (suc (suc (suc t))))))) in
-      past (messageFrom c values) u (omega arith)
-      ∙ rw (List·getD-eq-default values 0 {n = u} (let l = g .eight in omega arith))
-  all-found zero = refl
-  all-found (suc (suc zero)) = refl
-  all-found (suc (suc (suc zero))) = refl
-  all-found (suc (suc (suc (suc zero)))) = refl
-  all-found (suc (suc (suc (suc (suc zero))))) = refl
-  all-found (suc (suc (suc (suc (suc (suc zero)))))) = refl
-  all-found (suc (suc (suc (suc (suc (suc (suc zero))))))) = refl
+  all-found t = elim (decLt t 8) [
+    | yes h ↦
+        each-type (λ (u : ℕ). fieldOf (messageFrom c values) u ≡ fieldFrom (getD values u 0)) refl (rw (g .no-1)) refl refl refl refl refl refl t h
+    | no h ↦
+        let l = g .eight in
+        past (messageFrom c values) t (omega arith) ∙ rw (List·getD-eq-default values 0 {n = t} (omega arith))
+  ]
 
   -- the values of the record are these
   pub values-back : values ≡ valuesOf (messageFrom c values)
   unfolding messageFrom valuesOf
-  values-back = ext-getD 0 values (valuesOf (messageFrom c values)) (g .eight) (λ t h. at t (let l = g .eight in omega arith))
-    where
-      at : (t : ℕ) → t < 8 → getD values t 0 ≡ getD (valuesOf (messageFrom c values)) t 0
-      at zero h = sym (number-back (getD values 0 0))
-      at (suc zero) h = g .no-1
-      at (suc (suc zero)) h = sym (number-back (getD values 2 0))
-      at (suc (suc (suc zero))) h = sym (number-back (getD values 3 0))
-      at (suc (suc (suc (suc zero)))) h = sym (number-back (getD values 4 0))
-      at (suc (suc (suc (suc (suc zero))))) h = sym (number-back (getD values 5 0))
-      at (suc (suc (suc (suc (suc (suc zero)))))) h = sym (number-back (getD values 6 0))
-      at (suc (suc (suc (suc (suc (suc (suc zero))))))) h = sym (number-back (getD values 7 0))
-      at (suc (suc (suc (suc (suc (suc (suc (suc t)))))))) h = absurd (let no : ⊥ = omega arith in no)
+  values-back =
+      let l = g .eight in
+      let back : (t : ℕ) → getD values t 0 ≡ valueNumber (fieldFrom (getD values t 0)) = λ t. sym (number-back (getD values t 0)) in
+      ext-getD 0 values (valuesOf (messageFrom c values)) l
+      (λ t h.
+      each-type (λ (u : ℕ). getD values u 0 ≡ getD (valuesOf (messageFrom c values)) u 0)
+      (back 0) (g .no-1) (back 2) (back 3) (back 4) (back 5) (back 6) (back 7) t (omega arith))
 
   -- one value more
   module _ (t at n : ℕ) (h : t < 8) (k : t ≡ 1 → ⊥) where

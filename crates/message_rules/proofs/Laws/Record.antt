@@ -31,17 +31,25 @@ field-other m t u f n =
     (other t u 6 f _ _ _ _ _ refl refl n
     (other t u 7 f _ _ _ _ _ refl refl n refl))))))
 
+-- what holds of each column of the tables
+pub each-type
+    : (P : ℕ → Type 0) → P 0 → P 1 → P 2 → P 3 → P 4 → P 5 → P 6 → P 7
+    → (t : ℕ) → t < 8 → P t
+each-type P z a b d e f g i zero h = z
+each-type P z a b d e f g i (suc zero) h = a
+each-type P z a b d e f g i (suc (suc zero)) h = b
+each-type P z a b d e f g i (suc (suc (suc zero))) h = d
+each-type P z a b d e f g i (suc (suc (suc (suc zero)))) h = e
+each-type P z a b d e f g i (suc (suc (suc (suc (suc zero))))) h = f
+each-type P z a b d e f g i (suc (suc (suc (suc (suc (suc zero)))))) h = g
+each-type P z a b d e f g i (suc (suc (suc (suc (suc (suc (suc zero))))))) h = i
+each-type P z a b d e f g i (suc (suc (suc (suc (suc (suc (suc (suc t)))))))) h = absurd (let no : ⊥ = omega arith in no)
+
 pub field-same : (m : Message) (f : Field) (t : ℕ) → t < 8 → (t ≡ 1 → ⊥) → fieldOf (withField m t f) t ≡ f
 unfolding fieldOf withField
-field-same m f zero h n = refl
-field-same m f (suc zero) h n = absurd (n refl)
-field-same m f (suc (suc zero)) h n = refl
-field-same m f (suc (suc (suc zero))) h n = refl
-field-same m f (suc (suc (suc (suc zero)))) h n = refl
-field-same m f (suc (suc (suc (suc (suc zero))))) h n = refl
-field-same m f (suc (suc (suc (suc (suc (suc zero)))))) h n = refl
-field-same m f (suc (suc (suc (suc (suc (suc (suc zero))))))) h n = refl
-field-same m f (suc (suc (suc (suc (suc (suc (suc (suc t)))))))) h n = absurd (let no : ⊥ = omega arith in no)
+field-same m f =
+    each-type (λ (t : ℕ). (t ≡ 1 → ⊥) → fieldOf (withField m t f) t ≡ f)
+    (λ n. refl) (λ n. absurd (n refl)) (λ n. refl) (λ n. refl) (λ n. refl) (λ n. refl) (λ n. refl) (λ n. refl)
 
 -- each field is the one that was set, or as it was
 pub field-with
