@@ -12,7 +12,7 @@ use Rattle.message_reader.specs.Theorems.{Bytes}
 use Rattle.message_recording.specs.declared.line.Line.{Line}
 use Rattle.message_recording.specs.declared.line.Line.the-variants as line
 use Rattle.message_recording.specs.Cut.{neededOf}
-use Rattle.message_recording.specs.Line.{lineOf}
+use Rattle.message_recording.specs.Line.{shown, lineOf}
 use Rattle.message_recording.specs.Listing.{linesAt, listing}
 
 -- ---- A file of any length, message by message
@@ -49,13 +49,15 @@ MessageExactly =
 unfoldable pub EndExactly : Type 0
 EndExactly = (s : List ℕ) → (lineOf s ≡ line.End → s ≡ []) × (s ≡ [] → lineOf s ≡ line.End)
 
--- "fewer than 4 bytes left is 1, then a Size below 4 is 2"; and fewer bytes than Size are 1.
-unfoldable pub CutRefused : Type 0
-CutRefused =
+-- "each cut by its own Size (fewer than 4 bytes left is 1, then a Size below 4 is 2)"; fewer bytes than Size are 1, and else the line shows the
+-- reader's answer on the message that Size cuts off.
+unfoldable pub CutBySize : Type 0
+CutBySize =
     (s : List ℕ) → 0 < length s
     → (length s < 4 → lineOf s ≡ line.Refused status.Truncated)
     × (4 ≤ length s → sizeIn s < 4 → lineOf s ≡ line.Refused status.WrongSize)
     × (4 ≤ length s → length s < sizeIn s → lineOf s ≡ line.Refused status.Truncated)
+    × (4 ≤ sizeIn s → sizeIn s ≤ length s → lineOf s ≡ shown (sizeIn s) (readMessage (take (sizeIn s) s)))
 
 -- ---- The whole listing
 

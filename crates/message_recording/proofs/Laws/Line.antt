@@ -26,7 +26,7 @@ use Rattle.message_recording.specs.declared.line.Line.{Line}
 use Rattle.message_recording.specs.declared.line.Line.the-variants as line
 use Rattle.message_recording.specs.Cut.{bytesFor, neededOf}
 use Rattle.message_recording.specs.Line.{shown, lineOf}
-use Rattle.message_recording.specs.Theorems.{ReadSoFarDecides, FrontDecides, BoundedNeed, Whole, MessageExactly, EndExactly, CutRefused}
+use Rattle.message_recording.specs.Theorems.{ReadSoFarDecides, FrontDecides, BoundedNeed, Whole, MessageExactly, EndExactly, CutBySize}
 
 -- ---- which bytes decide
 
@@ -131,7 +131,7 @@ pub end-exactly : EndExactly
 unfolding EndExactly lineOf
 end-exactly s = (λ e. subst (OfLine s) e (of-line s), λ e. rw e)
 
--- ---- what Size refuses
+-- ---- cut by Size
 
 -- fewer bytes than are needed are refused
 pub line-short : (s : List ℕ) → 0 < length s → length s < neededOf s → lineOf s ≡ line.Refused status.Truncated
@@ -150,10 +150,11 @@ line-refused s h st e =
     line-of s h
     ∙ rw (e, sym (header-refused (take 4 s) st (sym (size-refused (take 4 s) st (size-take s 4 (omega arith) ∙ e)))))
 
-pub cut-refused : CutRefused
-unfolding CutRefused
-cut-refused s h = (
+pub cut-by-size : CutBySize
+unfolding CutBySize
+cut-by-size s h = (
   λ f. line-short s h (let n = needed-four s in omega arith),
   λ f b. line-refused s h status.WrongSize (size-below s f b),
   λ f b. line-short s h (let e = needed-size s f (omega arith) in omega arith),
+  λ f a. line-of s h ∙ rw (needed-size s (omega arith) f),
 )

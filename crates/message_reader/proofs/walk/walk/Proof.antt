@@ -100,7 +100,7 @@ returns-2 c =
     (ap answerNumber w, values-back _ _ (g .eight) ∙ ap valuesAfter w)
 
 refuse-requires-2 : tie.Need-refuse-requires-2 Inv-loop μ-loop
-refuse-requires-2 c κs = c .before .before .before .before .before .loop .inv .short
+refuse-requires-2 c κs = omega (arith, c .before .before .before .before .before .loop .inv .short)
 
 returns-3 : tie.Need-returns-3 Inv-loop μ-loop
 returns-3 c =
