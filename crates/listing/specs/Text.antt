@@ -18,6 +18,14 @@ decimalTo (suc k) n = cond (ltb n 10) ((48 + n) ∷ []) (decimalTo k (n / 10) ++
 unfoldable pub decimal : ℕ → List ℕ
 decimal n = decimalTo 20 n
 
+-- the two digits of a number below 100
+abbrev pub twoDigits : ℕ → List ℕ
+twoDigits n = (48 + n / 10) ∷ (48 + n % 10) ∷ []
+
+-- the four digits of a number below 10,000
+abbrev pub fourDigits : ℕ → List ℕ
+fourDigits n = twoDigits (n / 100) ++ twoDigits (n % 100)
+
 abbrev pub newline : List ℕ
 newline = 10 ∷ []
 

@@ -1,7 +1,7 @@
 // A line as text (01, "Session listing"), put into bytes that are written later.
-ghost use Prim.Native.Nat.{_+_, _≤_};
+ghost use Prim.Native.Nat.{_+_, _≤_, _<_};
 ghost use lib.ListN.{length};
-ghost use Rattle.listing.specs.Text.{Put, decimal, messageText, refusedText, endText, textOf};
+ghost use Rattle.listing.specs.Text.{Put, twoDigits, fourDigits, decimal, messageText, refusedText, endText, textOf};
 use message_recording::line::Line;
 use wire::status;
 
@@ -18,15 +18,72 @@ fn put(out: &mut [u8], at: usize, text: &[u8]) -> usize
     at + k
 }
 
-// Puts n in decimal.
+// Puts the two digits of a number below 100. They are one number of two bytes first, so that they are stored at once.
+fn put_two(out: &mut [u8], at: usize, n: u64) -> usize
+    requires { ⌜ (n < 100) × (at + 2 ≤ length (now out)) ⌝ }
+    ensures { λ r. ⌜ Put (now (out .entry)) at (twoDigits n) r (now (out .exit)) ⌝ }
+{
+    let pair = 12336 + n / 10 + 256 * (n % 10);
+    out[at] = (pair % 256) as u8;
+    out[at + 1] = (pair / 256) as u8;
+    at + 2
+}
+
+// Puts a number below 100, which has one digit or two.
+fn put_short(out: &mut [u8], at: usize, n: u64) -> usize
+    requires { ⌜ (n < 100) × (at + length (decimal n) ≤ length (now out)) ⌝ }
+    ensures { λ r. ⌜ Put (now (out .entry)) at (decimal n) r (now (out .exit)) ⌝ }
+{
+    if n < 10 {
+        out[at] = 48 + n as u8;
+        return at + 1;
+    }
+    put_two(out, at, n)
+}
+
+// Puts the four digits of a number below 10,000.
+fn put_four(out: &mut [u8], at: usize, n: u64) -> usize
+    requires { ⌜ (n < 10000) × (at + 4 ≤ length (now out)) ⌝ }
+    ensures { λ r. ⌜ Put (now (out .entry)) at (fourDigits n) r (now (out .exit)) ⌝ }
+{
+    let at = put_two(out, at, n / 100);
+    put_two(out, at, n % 100)
+}
+
+// Puts a number below 10,000, which has one digit to four.
+fn put_front(out: &mut [u8], at: usize, n: u64) -> usize
+    requires { ⌜ (n < 10000) × (at + length (decimal n) ≤ length (now out)) ⌝ }
+    ensures { λ r. ⌜ Put (now (out .entry)) at (decimal n) r (now (out .exit)) ⌝ }
+{
+    if n < 100 {
+        return put_short(out, at, n);
+    }
+    let at = put_short(out, at, n / 100);
+    put_two(out, at, n % 100)
+}
+
+// Puts a number of any length: its last four digits after those before them.
+fn put_long(out: &mut [u8], at: usize, n: u64) -> usize
+    requires { ⌜ at + length (decimal n) ≤ length (now out) ⌝ }
+    ensures { λ r. ⌜ Put (now (out .entry)) at (decimal n) r (now (out .exit)) ⌝ }
+{
+    if n < 10000 {
+        return put_front(out, at, n);
+    }
+    let at = put_long(out, at, n / 10000);
+    put_four(out, at, n % 10000)
+}
+
+// Puts n in decimal. Most numbers of a line have one digit or two.
 fn put_number(out: &mut [u8], at: usize, n: u64) -> usize
     requires { ⌜ at + 20 ≤ length (now out) ⌝ }
     ensures { λ r. ⌜ Put (now (out .entry)) at (decimal n) r (now (out .exit)) ⌝ }
     ensures { λ r. ⌜ r ≤ at + 20 ⌝ }
 {
-    let mut digits = [0u8; 20];
-    let count = io::decimal(n, &mut digits);
-    put(out, at, &digits[..count])
+    if n < 100 {
+        return put_short(out, at, n);
+    }
+    put_long(out, at, n)
 }
 
 fn put_message(out: &mut [u8], at: usize, place: u64, command: u8, size: usize) -> usize

@@ -1,16 +1,16 @@
 -- Digits, and texts one after the other. Assumes nothing.
-use Prim.Native.Nat.{ℕ, zero, suc, _+_, _-_, _/_, _%_, _^_, _≤_, _<_}
-use mathlib.Core.Path.{_≡_, ap, _∙_}
-use mathlib.Core.List.{List, _++_, append-assoc}
-use mathlib.Core.Logic.{⊎-elim}
+use Prim.Native.Nat.{ℕ, zero, suc, _+_, _*_, _/_, _%_, _^_, _≤_, _<_}
+use mathlib.Core.Path.{_≡_, refl, ap, _∙_}
+use mathlib.Core.List.{List, [], _∷_, _++_, append-assoc}
+use mathlib.Core.Bool.{cond}
 use native.Mathlib.Omega.{arith}
-use native.Mathlib.Nat.{pow-le-pow-right}
-use borrow.Author.Tests.{ltb-true, ltb-false, lt-ltb, le-ltb}
+use native.Mathlib.Numerals.{add-one}
+use borrow.Author.Tests.{lt-ltb, le-ltb}
 use lib.Dec.{ltb}
-use lib.ListN.{length, take, length-append}
-use Rattle.io.specs.Digits.{digits, Fewest}
-use Rattle.wire.proofs.Laws.Bool.{either, by-test}
-use Rattle.listing.specs.Text.{decimalTo, decimal, Put}
+use lib.ListN.{length, take, set, length-append, length-set}
+use lib.Seq.{take-suc-set}
+use Rattle.wire.proofs.Laws.Bool.{by-test}
+use Rattle.listing.specs.Text.{decimalTo, decimal, twoDigits, fourDigits, Put}
 
 -- k digits at most
 decimal-to-length : (k n : ℕ) → length (decimalTo k n) ≤ k
@@ -24,38 +24,6 @@ pub decimal-length : (n : ℕ) → length (decimal n) ≤ 20
 unfolding decimal
 decimal-length n = decimal-to-length 20 n
 
--- the fewest digits that hold a number are its decimal digits
-digits-to : (r k n : ℕ) → r ≤ k → Fewest 10 1 n r → digits 10 r n ≡ decimalTo k n
-unfolding decimalTo
-digits-to zero k n h f = absurd (let l = f .0 in let no : ⊥ = omega arith in no)
-digits-to (suc r) zero n h f = absurd (let no : ⊥ = omega arith in no)
-digits-to (suc zero) (suc k) n h f =
-    let small : n < 10 = omega (arith, f .1) in
-    let e : n % 10 ≡ n = omega arith in
-    simp (e, lt-ltb n 10 small)
-digits-to (suc (suc r)) (suc k) n h f =
-    let one : suc (suc r) - 1 ≡ suc r = omega arith in
-    let two : suc r - 1 ≡ r = omega arith in
-    let big : 10 ^ suc r ≤ n = rw one at (f .2 (omega arith)) in
-    let ten : 10 ≤ n = omega arith in
-    let last : n % 10 < 10 = omega arith in
-    rw (digits-to (suc r) k (n / 10) (omega arith) (omega arith, omega (arith, f .1), λ l. rw two (omega arith)), le-ltb n 10 ten, lt-ltb (n % 10) 10 last)
-
--- a number of 64 bits has at most 20
-pub digits-few : (r n : ℕ) → n < 2 ^ 64 → Fewest 10 1 n r → r ≤ 20
-digits-few r n h f =
-    ⊎-elim
-    (λ e.
-    let l = ltb-true 20 r e in
-    let up : 10 ^ 20 ≤ 10 ^ (r - 1) = pow-le-pow-right (omega arith) {i = 20} {j = r - 1} (omega arith) in
-    absurd (let no : ⊥ = omega (arith, f .2 (omega arith)) in no))
-    (λ e. ltb-false 20 r e)
-    (either (ltb 20 r))
-
-pub digits-decimal : (r n : ℕ) → n < 2 ^ 64 → Fewest 10 1 n r → digits 10 r n ≡ decimal n
-unfolding decimal
-digits-decimal r n h f = digits-to r 20 n (digits-few r n h f) f
-
 -- one text after the other
 pub put-then
     : {before mid out a b : List ℕ} {at r q : ℕ} → Put before at a r mid → Put mid r b q out → Put before at (a ++ b) q out
@@ -64,3 +32,69 @@ put-then {before} {mid} {out} {a} {b} {at} p s =
       place = simp length-append (omega (arith, p .place, s .place));
       bytes = s .bytes ∙ ap (λ (l : List ℕ). l ++ b) (p .bytes) ∙ append-assoc (take at before) a b;
     }
+
+-- one digit, and two
+pub decimal-one : (n : ℕ) → n < 10 → decimal n ≡ (48 + n) ∷ []
+unfolding decimal decimalTo
+decimal-one n h = simp (lt-ltb n 10 h)
+
+pub decimal-two : (n : ℕ) → 10 ≤ n → n < 100 → decimal n ≡ twoDigits n
+unfolding decimal decimalTo
+decimal-two n l h =
+    let q : n / 10 < 10 = omega arith in
+    simp (le-ltb n 10 l, lt-ltb (n / 10) 10 q)
+
+-- where k digits are enough, one more changes nothing
+one-more : (k n : ℕ) → n < 10 ^ suc k → decimalTo (suc (suc k)) n ≡ decimalTo (suc k) n
+unfolding decimalTo
+one-more zero n h =
+    let small : n < 10 = omega arith in
+    simp (lt-ltb n 10 small)
+one-more (suc k) n h =
+    let small : n / 10 < 10 ^ suc k = omega arith in
+    ap (λ (l : List ℕ). cond (ltb n 10) ((48 + n) ∷ []) (l ++ ((48 + n % 10) ∷ []))) (one-more k (n / 10) small)
+
+-- the last two digits after those of the hundredth part
+pub decimal-pair : (n : ℕ) → 100 ≤ n → n < 2 ^ 64 → decimal n ≡ decimal (n / 100) ++ twoDigits (n % 100)
+unfolding decimal decimalTo
+decimal-pair n l h =
+    let ten : 10 ≤ n = omega arith in
+    let tenth : 10 ≤ n / 10 = omega arith in
+    let part : n / 10 / 10 ≡ n / 100 = omega arith in
+    let first : n / 10 % 10 ≡ n % 100 / 10 = omega arith in
+    let second : n % 10 ≡ n % 100 % 10 = omega arith in
+    let more : decimalTo 20 (n / 100) ≡ decimalTo 18 (n / 100) = one-more 18 (n / 100) (omega arith) ∙ one-more 17 (n / 100) (omega arith) in
+    rw (more, le-ltb n 10 ten, le-ltb (n / 10) 10 tenth, part, first, second)
+    (append-assoc (decimalTo 18 (n / 100)) ((48 + n % 100 / 10) ∷ []) ((48 + n % 100 % 10) ∷ []))
+
+-- the last four
+pub decimal-four : (n : ℕ) → 10000 ≤ n → n < 2 ^ 64 → decimal n ≡ decimal (n / 10000) ++ fourDigits (n % 10000)
+decimal-four n l h =
+    let part : n / 100 / 100 ≡ n / 10000 = omega arith in
+    let first : n / 100 % 100 ≡ n % 10000 / 100 = omega arith in
+    let second : n % 100 ≡ n % 10000 % 100 = omega arith in
+    decimal-pair n (omega arith) h
+    ∙ rw (decimal-pair (n / 100) (omega arith) (omega arith), part, first, second)
+    (append-assoc (decimal (n / 10000)) (twoDigits (n % 10000 / 100)) (twoDigits (n % 10000 % 100)))
+
+-- how many there are before them
+pub pair-length : (n : ℕ) → 100 ≤ n → n < 2 ^ 64 → length (decimal n) ≡ length (decimal (n / 100)) + 2
+pair-length n l h = rw (decimal-pair n l h) (length-append (decimal (n / 100)) (twoDigits (n % 100)))
+
+pub four-length : (n : ℕ) → 10000 ≤ n → n < 2 ^ 64 → length (decimal n) ≡ length (decimal (n / 10000)) + 4
+four-length n l h = rw (decimal-four n l h) (length-append (decimal (n / 10000)) (fourDigits (n % 10000)))
+
+-- one byte
+pub put-byte : (zs : List ℕ) (at b r : ℕ) → at < length zs → r ≡ at + 1 → Put zs at (b ∷ []) r (set zs at b)
+put-byte zs at b r h e = record { place = e; bytes = rw (e, add-one) (take-suc-set zs at b h) }
+
+-- two bytes, made of one number
+pub put-pair
+    : (zs : List ℕ) (at n : ℕ) → n < 100 → at + 2 ≤ length zs
+    → Put zs at (twoDigits n) (at + 2) (set (set zs at ((12336 + n / 10 + 256 * (n % 10)) % 256)) (at + 1) ((12336 + n / 10 + 256 * (n % 10)) / 256))
+put-pair zs at n h l =
+    let first : (12336 + n / 10 + 256 * (n % 10)) % 256 ≡ 48 + n / 10 = omega arith in
+    let second : (12336 + n / 10 + 256 * (n % 10)) / 256 ≡ 48 + n % 10 = omega arith in
+    rw (first, second)
+    (put-then (put-byte zs at (48 + n / 10) (at + 1) (omega arith) refl)
+    (put-byte (set zs at (48 + n / 10)) (at + 1) (48 + n % 10) (at + 2) (simp length-set (omega arith)) (omega arith)))

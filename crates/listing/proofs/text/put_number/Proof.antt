@@ -1,43 +1,37 @@
--- The digits that `io` gives are the decimal text. Assumes nothing.
-use Prim.Native.Nat.{_<_, _^_}
+-- No number has more than 20 digits. Assumes nothing.
 use native.Mathlib.Omega.{arith}
-use Rattle.listing.proofs.Laws.Text.{digits-few, digits-decimal}
+use Rattle.listing.proofs.Laws.Text.{decimal-length}
 use borrow.Author.Needs.{needs}
 use Rattle.listing.proofs.text.put_number.Statement.{statement}
 use Rattle.listing.proofs.text.put_number.Tie as tie
 
-decimal-requires : tie.Need-decimal-requires
-decimal-requires c κs = search needs
-
-array-share-prefix-digits : tie.Need-array-share-prefix-digits
-array-share-prefix-digits c = search needs
-
-slice-aggregate-put : tie.Need-slice-aggregate-put
-slice-aggregate-put c = search needs
-
-put-requires : tie.Need-put-requires
-put-requires c κs =
-    let d = c .before .before .decimal .ensures in
-    let small : c .before .before .before .before .before .args .n < 2 ^ 64 = omega arith in
-    omega (arith, d .0 .1, digits-few _ _ small (d .1 .0))
+put-short-requires : tie.Need-put-short-requires
+put-short-requires c κs =
+    let l = decimal-length (c .before .before .before .args .n) in
+    (omega arith, omega arith)
 
 same-length : tie.Need-same-length
 same-length c = search needs
 
 returns : tie.Need-returns
 returns c =
-    let d = c .before .before .before .before .before .decimal .ensures in
-    let small : c .before .before .before .before .before .before .before .before .args .n < 2 ^ 64 = omega arith in
-    let p = c .before .before .put .ensures in
-    (rw (← digits-decimal _ _ small (d .1 .0), ← d .1 .1) p, omega (arith, d .0 .1, p .place, digits-few _ _ small (d .1 .0)))
+    let p = c .before .before .put-short .ensures in
+    let l = decimal-length (c .before .before .before .before .before .before .args .n) in
+    (p, omega (arith, p .place))
+
+put-long-requires : tie.Need-put-long-requires
+put-long-requires c κs =
+    let l = decimal-length (c .before .before .before .args .n) in
+    omega arith
+
+same-length-2 : tie.Need-same-length-2
+same-length-2 c = search needs
+
+returns-2 : tie.Need-returns-2
+returns-2 c =
+    let p = c .before .before .put-long .ensures in
+    let l = decimal-length (c .before .before .before .before .before .before .args .n) in
+    (p, omega (arith, p .place))
 
 pub put-number-spec : {M : Type 1} → statement M
-put-number-spec =
-    tie.close
-    (tie.spec
-    decimal-requires
-    array-share-prefix-digits
-    slice-aggregate-put
-    put-requires
-    same-length
-    returns)
+put-number-spec = tie.close (tie.spec put-short-requires same-length returns put-long-requires same-length-2 returns-2)
