@@ -9,7 +9,7 @@ ghost use Prim.Native.Nat.{_+_, _-_, _≤_, _<_};
 ghost use mathlib.Core.Logic.{_⊎_};
 ghost use lib.ListN.{length, take, drop};
 ghost use Rattle.message_recording.specs.Line.{lineOf};
-ghost use Rattle.listing.specs.State.{Within, stateAfter};
+ghost use Rattle.listing.specs.State.{Within, Lines, decided, stateAfter};
 ghost use Rattle.listing.specs.Text.{Put, textOf};
 use libc::STDERR_FILENO;
 use libc::STDIN_FILENO;
@@ -95,6 +95,38 @@ fn show(rest: &[u8], out: &mut [u8], state: State) -> State
     state
 }
 
+// Whether the bytes that are not listed yet decide a line: they are as many as it needs, or no more follow.
+fn is_decided(rest: &[u8], ended: bool) -> bool
+    ensures { λ r. ⌜ r ≡ decided ended (now (rest .entry)) ⌝ }
+{
+    if ended {
+        return true;
+    }
+    needed(rest) <= rest.len()
+}
+
+// Puts the lines that are decided, as long as there is room for one more.
+fn show_lines(buf: &[u8], out: &mut [u8], state: State) -> State
+    requires { ⌜ Within (now buf) (now out) state ⌝ }
+    ensures { λ r. ⌜ Within (now (buf .entry)) (now (out .exit)) r ⌝ }
+    ensures lines { λ r. ⌜ Lines (now (buf .entry)) (now (out .entry)) state r (now (out .exit)) ⌝ }
+{
+    let mut state = state;
+    while state.going {
+        if out.len() - state.used < 64 {
+            return state;
+        }
+        let from = state.from;
+        let to = state.to;
+        let rest = &buf[from..to];
+        if !is_decided(rest, state.ended) {
+            return state;
+        }
+        state = show(rest, out, state);
+    }
+    state
+}
+
 // Says why the lines can't be written, and answers the verdict. Where nobody reads them any more, as after `| head -1`, nothing is wrong.
 fn unwritten() -> u8
     ensures { λ r. ⌜ 2 ≤ r ⌝ }
@@ -134,11 +166,8 @@ fn step(fd: i32, path: &[u8], buf: &mut [u8], out: &mut [u8], state: State) -> S
     let from = state.from;
     let to = state.to;
     let rest = &buf[from..to];
-    if state.ended {
-        return show(rest, out, state);
-    }
-    if needed(rest) <= rest.len() {
-        return show(rest, out, state);
+    if is_decided(rest, state.ended) {
+        return show_lines(buf, out, state);
     }
     if state.used > 0 {
         return write_lines(out, state);
