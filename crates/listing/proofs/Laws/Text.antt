@@ -88,13 +88,11 @@ four-length n l h = rw (decimal-four n l h) (length-append (decimal (n / 10000))
 pub put-byte : (zs : List ℕ) (at b r : ℕ) → at < length zs → r ≡ at + 1 → Put zs at (b ∷ []) r (set zs at b)
 put-byte zs at b r h e = record { place = e; bytes = rw (e, add-one) (take-suc-set zs at b h) }
 
--- two bytes, made of one number
+-- two bytes that are the two digits
 pub put-pair
-    : (zs : List ℕ) (at n : ℕ) → n < 100 → at + 2 ≤ length zs
-    → Put zs at (twoDigits n) (at + 2) (set (set zs at ((12336 + n / 10 + 256 * (n % 10)) % 256)) (at + 1) ((12336 + n / 10 + 256 * (n % 10)) / 256))
-put-pair zs at n h l =
-    let first : (12336 + n / 10 + 256 * (n % 10)) % 256 ≡ 48 + n / 10 = omega arith in
-    let second : (12336 + n / 10 + 256 * (n % 10)) / 256 ≡ 48 + n % 10 = omega arith in
-    rw (first, second)
-    (put-then (put-byte zs at (48 + n / 10) (at + 1) (omega arith) refl)
-    (put-byte (set zs at (48 + n / 10)) (at + 1) (48 + n % 10) (at + 2) (simp length-set (omega arith)) (omega arith)))
+    : (zs : List ℕ) (at n x y : ℕ) → x ≡ 48 + n / 10 → y ≡ 48 + n % 10 → at + 2 ≤ length zs
+    → Put zs at (twoDigits n) (at + 2) (set (set zs at x) (at + 1) y)
+put-pair zs at n x y first second l =
+    rw (← first, ← second)
+    (put-then (put-byte zs at x (at + 1) (omega arith) refl)
+    (put-byte (set zs at x) (at + 1) y (at + 2) (simp length-set (omega arith)) (omega arith)))

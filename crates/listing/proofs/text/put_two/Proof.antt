@@ -38,7 +38,9 @@ same-length : tie.Need-same-length
 same-length c = search needs
 
 returns : tie.Need-returns
-returns c = let a = c .args in put-pair (now (a .out)) (a .at) (a .n) (c .pre .0) (c .pre .1)
+returns c =
+    let a = c .args in
+    put-pair (now (a .out)) (a .at) (a .n) _ _ (omega arith) (omega arith) (c .pre .1)
 
 pub put-two-spec : {M : Type 1} → statement M
 put-two-spec =
