@@ -1,6 +1,6 @@
 // The two tables that reader and writer share: which TLV types a command has, and how long the value of each may be.
 ghost use mathlib.Core.Path.{_≡_};
-ghost use Rattle.message_rules.specs.Rules.{rolesOf, roleOf, lengthsOf, lengthOk, knownCommand};
+ghost use Rattle.message_rules.specs.Rules.{roleOf, lengthsOf, lengthOk, knownCommand};
 
 // What a TLV type is to a command.
 pub const FOREIGN: u8 = 0;
@@ -8,12 +8,6 @@ pub const FOREIGN: u8 = 0;
 pub const NEEDED: u8 = 1;
 
 pub const OPTIONAL: u8 = 2;
-
-const F: u8 = FOREIGN;
-
-const N: u8 = NEEDED;
-
-const O: u8 = OPTIONAL;
 
 // The lengths that a value may have: the least, the greatest, and what they are multiples of.
 struct Lengths(usize, usize, usize);
@@ -28,41 +22,54 @@ pub fn known_command(command: u8) -> bool
     command <= 6
 }
 
-// A row of the table: what each TLV type is to a command. Columns: 0 Friendly Name, 1 no such type, 2 RTSP Port, 3 Source ID, 4 Security Token,
-// 5 Security Options, 6 PIN Challenge, 7 PIN Response Reason.
-type Roles = [u8; 8];
-
-// The roles of the TLV types in a command.
-fn roles_of(command: u8) -> Roles
-    ensures { λ r. ⌜ r ≡ rolesOf command ⌝ }
-{
-    match command {
-        // Source Ready
-        1 => [O, F, N, N, F, F, F, F],
-        // Stop Projection
-        2 => [N, F, F, N, F, F, F, F],
-        // Security Handshake
-        3 => [F, F, F, O, N, F, F, F],
-        // Session Request
-        4 => [N, F, F, N, F, N, F, F],
-        // PIN Challenge
-        5 => [F, F, F, N, F, F, N, F],
-        // PIN Response
-        6 => [F, F, F, N, F, F, N, N],
-        // no such command
-        _ => [F, F, F, F, F, F, F, F],
-    }
-}
-
-// What a TLV type is to a command: FOREIGN, NEEDED or OPTIONAL. A type or a command that the table doesn't have is foreign.
+// What a TLV type is to a command: FOREIGN, NEEDED or OPTIONAL. A type or a command that there is not is foreign. The types: 0 Friendly Name,
+// 2 RTSP Port, 3 Source ID, 4 Security Token, 5 Security Options, 6 PIN Challenge, 7 PIN Response Reason.
 pub fn role(command: u8, kind: u8) -> u8
     ensures { λ r. ⌜ r ≡ roleOf command kind ⌝ }
 {
-    if 7 < kind {
-        return FOREIGN;
+    match command {
+        // Source Ready
+        1 => match kind {
+            0 => OPTIONAL,
+            2 => NEEDED,
+            3 => NEEDED,
+            _ => FOREIGN,
+        },
+        // Stop Projection
+        2 => match kind {
+            0 => NEEDED,
+            3 => NEEDED,
+            _ => FOREIGN,
+        },
+        // Security Handshake
+        3 => match kind {
+            3 => OPTIONAL,
+            4 => NEEDED,
+            _ => FOREIGN,
+        },
+        // Session Request
+        4 => match kind {
+            0 => NEEDED,
+            3 => NEEDED,
+            5 => NEEDED,
+            _ => FOREIGN,
+        },
+        // PIN Challenge
+        5 => match kind {
+            3 => NEEDED,
+            6 => NEEDED,
+            _ => FOREIGN,
+        },
+        // PIN Response
+        6 => match kind {
+            3 => NEEDED,
+            6 => NEEDED,
+            7 => NEEDED,
+            _ => FOREIGN,
+        },
+        // no such command
+        _ => FOREIGN,
     }
-    let roles = roles_of(command);
-    roles[kind as usize]
 }
 
 // The lengths that a value of a type may have.

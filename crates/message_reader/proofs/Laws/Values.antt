@@ -15,8 +15,8 @@ use Rattle.message_rules.specs.declared.record.Field.{Field}
 use Rattle.message_rules.specs.declared.record.Message.{Message}
 use Rattle.message_rules.specs.Rules.{roleOf, foreign, needed}
 use Rattle.message_rules.specs.Record.{fieldOf, withField, emptyOf}
-use Rattle.message_rules.proofs.Laws.Rules.{type-small, type-not-1}
-use Rattle.message_rules.proofs.Laws.Record.{each-type, past, field-with}
+use Rattle.message_rules.proofs.Laws.Rules.{each-type, type-small, type-not-1}
+use Rattle.message_rules.proofs.Laws.Record.{past, field-with}
 use Rattle.message_reader.specs.Reading.{hasNeeded}
 use Rattle.message_reader.specs.Values.{none, high, fieldFrom, messageFrom, valueNumber, valuesOf}
 use Rattle.message_reader.proofs.Laws.Reading.{value}

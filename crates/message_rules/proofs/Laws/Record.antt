@@ -1,5 +1,5 @@
 -- Laws of the fields of a record. Assumes nothing.
-use Prim.Native.Nat.{ℕ, zero, suc, _<_}
+use Prim.Native.Nat.{ℕ, _<_}
 use mathlib.Core.Path.{_≡_, refl, sym, ap, _∙_}
 use mathlib.Core.Bool.{Bool, true, false, cond}
 use mathlib.Core.Logic.{_⊎_, inl, inr, ⊎-elim}
@@ -9,6 +9,7 @@ use borrow.Author.Tests.{eqb-true, eqb-false, ne-eqb}
 use lib.Dec.{eqb}
 use Rattle.message_rules.specs.declared.record.Field.{Field}
 use Rattle.message_rules.specs.declared.record.Message.{Message}
+use Rattle.message_rules.proofs.Laws.Rules.{each-type}
 use Rattle.message_rules.specs.Record.{absent, fieldOf, withField, emptyOf}
 use Rattle.wire.proofs.Laws.Bool.{either, not-both}
 
@@ -30,20 +31,6 @@ field-other m t u f n =
     (other t u 5 f _ _ _ _ _ refl refl n
     (other t u 6 f _ _ _ _ _ refl refl n
     (other t u 7 f _ _ _ _ _ refl refl n refl))))))
-
--- what holds of each column of the tables
-pub each-type
-    : (P : ℕ → Type 0) → P 0 → P 1 → P 2 → P 3 → P 4 → P 5 → P 6 → P 7
-    → (t : ℕ) → t < 8 → P t
-each-type P z a b d e f g i zero h = z
-each-type P z a b d e f g i (suc zero) h = a
-each-type P z a b d e f g i (suc (suc zero)) h = b
-each-type P z a b d e f g i (suc (suc (suc zero))) h = d
-each-type P z a b d e f g i (suc (suc (suc (suc zero)))) h = e
-each-type P z a b d e f g i (suc (suc (suc (suc (suc zero))))) h = f
-each-type P z a b d e f g i (suc (suc (suc (suc (suc (suc zero)))))) h = g
-each-type P z a b d e f g i (suc (suc (suc (suc (suc (suc (suc zero))))))) h = i
-each-type P z a b d e f g i (suc (suc (suc (suc (suc (suc (suc (suc t)))))))) h = absurd (let no : ⊥ = omega arith in no)
 
 pub field-same : (m : Message) (f : Field) (t : ℕ) → t < 8 → (t ≡ 1 → ⊥) → fieldOf (withField m t f) t ≡ f
 unfolding fieldOf withField

@@ -1,15 +1,31 @@
 -- Laws of the two tables: each is a fact of every row. Assumes nothing.
 use Prim.Native.Nat.{ℕ, zero, suc, _%_, _≤_, _<_}
-use mathlib.Core.Path.{_≡_, refl, ap, _∙_}
+use mathlib.Core.Path.{_≡_, refl, sym, ap, _∙_}
 use mathlib.Core.List.{List}
-use mathlib.Core.Bool.{true, false, _&&_}
+use mathlib.Core.Bool.{true, false, _&&_, _||_}
 use native.Mathlib.Omega.{arith}
 use native.Mathlib.Decide.{decLt}
-use borrow.Author.Tests.{leb-true, eqb-false}
+use borrow.Author.Tests.{leb-true, eqb-true, eqb-false, ne-eqb}
 use lib.Dec.{leb, eqb}
 use lib.ListN.{length, getD, List·getD-eq-default}
 use Rattle.message_rules.specs.Rules.{foreign, noRoles, rolesOf, roleOf, noLengths, lengthsOf, lengthOk}
+use Rattle.wire.specs.Below.{allBelow}
+use Rattle.wire.proofs.Laws.Below.{below-all}
 use Rattle.wire.proofs.Laws.Bool.{both}
+
+-- what holds of each column of the tables
+pub each-type
+    : (P : ℕ → Type 0) → P 0 → P 1 → P 2 → P 3 → P 4 → P 5 → P 6 → P 7
+    → (t : ℕ) → t < 8 → P t
+each-type P z a b d e f g i zero h = z
+each-type P z a b d e f g i (suc zero) h = a
+each-type P z a b d e f g i (suc (suc zero)) h = b
+each-type P z a b d e f g i (suc (suc (suc zero))) h = d
+each-type P z a b d e f g i (suc (suc (suc (suc zero)))) h = e
+each-type P z a b d e f g i (suc (suc (suc (suc (suc zero))))) h = f
+each-type P z a b d e f g i (suc (suc (suc (suc (suc (suc zero)))))) h = g
+each-type P z a b d e f g i (suc (suc (suc (suc (suc (suc (suc zero))))))) h = i
+each-type P z a b d e f g i (suc (suc (suc (suc (suc (suc (suc (suc t)))))))) h = absurd (let no : ⊥ = omega arith in no)
 
 -- what holds of every row of the table, and of no command, holds of every command
 rows
@@ -43,6 +59,24 @@ eight-columns c = rows (λ (r : List ℕ). length r ≡ 8) refl refl refl refl r
 pub no-type : (c t : ℕ) → 7 < t → roleOf c t ≡ foreign
 unfolding roleOf
 no-type c t h = List·getD-eq-default (rolesOf c) foreign {n = t} (omega (arith, eight-columns c))
+
+-- a command's types are those that its row names
+pub but-three
+    : (c a b d : ℕ) → allBelow 8 (λ (t : ℕ). eqb t a || (eqb t b || (eqb t d || eqb (roleOf c t) foreign))) ≡ true
+    → (k : ℕ) → (k ≡ a → ⊥) → (k ≡ b → ⊥) → (k ≡ d → ⊥) → foreign ≡ roleOf c k
+but-three c a b d e k na nb nd = elim (decLt k 8) [
+  | yes h ↦
+      let x = below-all (λ (t : ℕ). eqb t a || (eqb t b || (eqb t d || eqb (roleOf c t) foreign))) 8 e k h in
+      sym (eqb-true (roleOf c k) foreign (simp (ne-eqb k a na, ne-eqb k b nb, ne-eqb k d nd) at x))
+  | no h ↦ sym (no-type c k (omega arith))
+]
+
+pub no-role : (c : ℕ) → rolesOf c ≡ noRoles → (k : ℕ) → foreign ≡ roleOf c k
+unfolding roleOf
+no-role c e k = rw e (elim (decLt k 8) [
+  | yes h ↦ each-type (λ (t : ℕ). foreign ≡ getD noRoles t foreign) refl refl refl refl refl refl refl refl k h
+  | no h ↦ sym (List·getD-eq-default noRoles foreign {n = k} (omega arith))
+])
 
 -- there is no type 1
 pub no-type-1 : (c : ℕ) → roleOf c 1 ≡ foreign
