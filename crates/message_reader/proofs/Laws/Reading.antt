@@ -291,9 +291,6 @@ pub accepted-exactly : AcceptedExactly
 unfolding AcceptedExactly
 accepted-exactly s m = (λ e. subst (OfAnswer s) e (of-read s), accepts s m)
 
-pub accepted-headed : (s : List ℕ) (m : Message) → readMessage s ≡ answer.Accepted m → Headed s
-accepted-headed s m e = subst (OfAnswer s) e (of-read s) .headed
-
 -- no refusal has the number 0
 fault-number : (s : List ℕ) (at : ℕ) (m : Message) (st : Status) → Fault s at m st → numberOf st ≡ 0 → ⊥
 fault-number s at m st (given.truncated h) e = omega arith
