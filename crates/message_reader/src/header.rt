@@ -38,7 +38,7 @@ pub fn read_size(bytes: &[u8]) -> Size
 }
 
 // The header of a message of that Size.
-fn sized(bytes: &[u8], size: usize) -> Header
+fn header_of_size(bytes: &[u8], size: usize) -> Header
     requires { ⌜ (4 ≤ length (now bytes)) × (size ≡ sizeIn (now bytes)) × (4 ≤ size) ⌝ }
     ensures { λ r. ⌜ r ≡ headerOf (now (bytes .entry)) ⌝ }
 {
@@ -71,7 +71,7 @@ pub(crate) fn read_header(bytes: &[u8]) -> Header
     ensures { λ r. ⌜ r ≡ headerOf (now (bytes .entry)) ⌝ }
 {
     match read_size(bytes) {
-        Size::Declared(size) => sized(bytes, size),
+        Size::Declared(size) => header_of_size(bytes, size),
         Size::Refused { status } => Header::Refused { status },
     }
 }

@@ -39,3 +39,8 @@ empty = refl
 pub size-below-header : listing (0 ∷ 3 ∷ 1 ∷ 1 ∷ []) ≡ (0, line.Refused status.WrongSize) ∷ []
 unfolding number firstOf readSize headerOf readMessage neededOf lineOf linesFrom linesAt listing
 size-below-header = refl
+
+-- fewer bytes than Size: `0 refused 1`
+pub size-past-the-end : listing (0 ∷ 5 ∷ 1 ∷ 1 ∷ []) ≡ (0, line.Refused status.Truncated) ∷ []
+unfolding number firstOf readSize headerOf readMessage neededOf lineOf linesFrom linesAt listing
+size-past-the-end = refl

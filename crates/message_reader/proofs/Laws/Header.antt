@@ -1,7 +1,7 @@
 -- The rule of Size, and the header after it. Assumes nothing.
 use Prim.Native.Nat.{ℕ, _+_, _≤_, _<_}
 use mathlib.Core.Path.{_≡_, refl, ap, subst}
-use mathlib.Core.Bool.{cond}
+use mathlib.Core.Bool.{Bool, true, false, not, cond}
 use mathlib.Core.List.{List, _++_}
 use native.Mathlib.Omega.{arith}
 use native.Mathlib.Decide.{decLt}
@@ -13,10 +13,11 @@ use Rattle.wire.specs.declared.status.Status.{Status}
 use Rattle.wire.specs.declared.status.Status.the-variants as status
 use Rattle.wire.proofs.Laws.Number.{number-same}
 use Rattle.wire.proofs.Laws.Checks.{by-check, by-last-check}
+use Rattle.message_rules.specs.Rules.{knownCommand}
 use Rattle.message_reader.specs.declared.header.Size.{Size}
 use Rattle.message_reader.specs.declared.header.Size.the-variants as size
 use Rattle.message_reader.specs.declared.header.Header.the-variants as header
-use Rattle.message_reader.specs.Reading.{sizeIn, sizeChecks, readSize, headerOf}
+use Rattle.message_reader.specs.Reading.{sizeIn, versionIn, commandIn, sizeChecks, readSize, headerOf}
 
 -- Size counts the header, and n is Size
 pub record Sized (s : List ℕ) (n : ℕ) : Type 0 where
@@ -84,3 +85,16 @@ size-take s n h = elim (decLt (length s) n) [
       let same : length (take n s) ≡ n = length-take-le n s (omega arith) in
       size-same (take n s) s (omega arith) (omega arith) (number-same 2 (take n s) s 0 0 (λ k b. getD-take n s (0 + k) 0 (omega arith)))
 ]
+
+-- with the size and the version right, the command decides
+pub header-known
+    : (s : List ℕ) → 4 ≤ length s → sizeIn s ≡ length s → versionIn s ≡ 1
+    → headerOf s ≡ cond (knownCommand (commandIn s)) (header.Command (commandIn s)) (header.Refused status.UnknownKind)
+unfolding firstOf headerOf
+header-known s f e v = simp (le-ltb (length s) 4 f, e, le-ltb (length s) (length s) (omega arith), v) (go (knownCommand (commandIn s)))
+  where
+    go : (k : Bool)
+        → cond (accepted (cond (not k) status.UnknownKind status.Accepted)) (header.Command (commandIn s)) (header.Refused (cond (not k) status.UnknownKind status.Accepted))
+        ≡ cond k (header.Command (commandIn s)) (header.Refused status.UnknownKind)
+    go true = refl
+    go false = refl

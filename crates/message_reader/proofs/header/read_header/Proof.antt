@@ -11,8 +11,8 @@ read-size-requires c κs = search needs
 enum-known-size : tie.Need-enum-known-size
 enum-known-size c = search needs
 
-sized-requires : tie.Need-sized-requires
-sized-requires c κs =
+header-of-size-requires : tie.Need-header-of-size-requires
+header-of-size-requires c κs =
     let d = size-declared _ _ (sym (c .before .before .before .read-size .ensures) ∙ c .before .size .given .1) in
     (d .four, d .size, d .counted)
 
@@ -27,4 +27,4 @@ returns-2 c = size-refused _ _ (sym (c .before .before .before .read-size .ensur
 
 pub read-header-spec : {M : Type 1} → statement M
 read-header-spec =
-    tie.close (tie.spec read-size-requires enum-known-size sized-requires enum-known-status returns returns-2)
+    tie.close (tie.spec read-size-requires enum-known-size header-of-size-requires enum-known-status returns returns-2)
