@@ -10,10 +10,10 @@ use Rattle.wire.specs.Number.{number}
 use Rattle.wire.specs.Status.{numberOf}
 use Rattle.message_reader.specs.declared.Answer.{Answer}
 use Rattle.message_reader.specs.declared.Answer.the-variants as answer
-use Rattle.message_rules.specs.Rules.{rolesOf, roleOf, lengthsOf, lengthOk, knownCommand}
+use Rattle.message_rules.specs.Rules.{rolesOf, roleOf, lengthsOf, lengthIn, lengthOk, knownCommand}
 use Rattle.wire.specs.Below.{allBelow}
 use Rattle.message_rules.specs.Record.{fieldOf, withField, emptyOf}
-use Rattle.message_reader.specs.Reading.{headerOf, tlvAt, hasNeeded, isComplete, lastOf, tlvsFrom, readMessage}
+use Rattle.message_reader.specs.Reading.{headerStatus, tlvAt, hasNeeded, isComplete, lastOf, tlvsFrom, readMessage}
 use Rattle.message_rules.specs.Accessors.{portOf}
 
 -- bytes, and what reading them gives: accepted with an RTSP port, or a refusal number and its place
@@ -56,6 +56,6 @@ all [] = true
 all (x ∷ xs) = holds x && all xs
 
 pub examples-hold : all examples ≡ true
-unfolding tail short givesPort givesRefusal holds examples all number rolesOf roleOf lengthsOf lengthOk knownCommand fieldOf withField emptyOf
-    allBelow hasNeeded isComplete firstOf headerOf tlvAt lastOf tlvsFrom readMessage portOf
+unfolding tail short givesPort givesRefusal holds examples all number rolesOf roleOf lengthsOf lengthIn lengthOk knownCommand fieldOf withField emptyOf
+    allBelow hasNeeded isComplete firstOf headerStatus tlvAt lastOf tlvsFrom readMessage portOf
 examples-hold = refl

@@ -8,6 +8,7 @@ use lib.Dec.{ltb, eqb}
 use Rattle.wire.specs.Number.{number}
 use Rattle.wire.specs.Below.{allBelow}
 use Rattle.wire.specs.Checks.{Check, refuse, firstOf, accepted}
+use Rattle.wire.specs.declared.status.Status.{Status}
 use Rattle.wire.specs.declared.status.Status.the-variants as status
 use Rattle.message_rules.specs.declared.record.Field.{Field}
 use Rattle.message_rules.specs.declared.record.Message.{Message}
@@ -17,8 +18,6 @@ use Rattle.message_reader.specs.declared.Answer.{Answer}
 use Rattle.message_reader.specs.declared.Answer.the-variants as answer
 use Rattle.message_reader.specs.declared.header.Size.{Size}
 use Rattle.message_reader.specs.declared.header.Size.the-variants as size
-use Rattle.message_reader.specs.declared.header.Header.{Header}
-use Rattle.message_reader.specs.declared.header.Header.the-variants as header
 use Rattle.message_reader.specs.declared.tlv.Tlv.{Tlv}
 use Rattle.message_reader.specs.declared.tlv.Tlv.the-variants as tlv
 
@@ -50,9 +49,9 @@ headerChecks s =
     ∷ (refuse status.UnknownKind (not (knownCommand (commandIn s)))
     ∷ []))))
 
--- the command, or what the header is refused with
-unfoldable pub headerOf : List ℕ → Header
-headerOf s = cond (accepted (firstOf (headerChecks s))) (header.Command (commandIn s)) (header.Refused (firstOf (headerChecks s)))
+-- what the header is refused with, or Accepted
+unfoldable pub headerStatus : List ℕ → Status
+headerStatus s = firstOf (headerChecks s)
 
 -- ---- a TLV (001 section 2.2.7)
 
@@ -108,9 +107,7 @@ unfoldable pub tlvsFrom : ℕ → List ℕ → ℕ → Message → Answer
 tlvsFrom zero s at m = lastOf (length s) m
 tlvsFrom (suc k) s at m = cond (ltb at (length s)) (goOn (tlvsFrom k s) at m (tlvAt s at m)) (lastOf (length s) m)
 
-abbrev pub afterHeader : List ℕ → Header → Answer
-afterHeader s (header.Command c) = tlvsFrom (length s) s 4 (emptyOf c)
-afterHeader s (header.Refused st) = answer.Refused st 0
-
+-- a refused header is the answer, with place 0; else the TLVs give it
 unfoldable pub readMessage : List ℕ → Answer
-readMessage s = afterHeader s (headerOf s)
+readMessage s =
+    cond (accepted (headerStatus s)) (tlvsFrom (length s) s 4 (emptyOf (commandIn s))) (answer.Refused (headerStatus s) 0)

@@ -2,7 +2,7 @@
 ghost use mathlib.Core.Path.{_≡_};
 ghost use Prim.Native.Nat.{_≤_};
 ghost use lib.ListN.{length};
-ghost use Rattle.message_reader.specs.Reading.{sizeIn, readSize, headerOf};
+ghost use Rattle.message_reader.specs.Reading.{sizeIn, readSize, headerStatus};
 use message_rules::rules;
 use wire::number::u16_at;
 use wire::status::Status;
@@ -10,12 +10,6 @@ use wire::status::Status;
 // What the first bytes say of a message's size: its Size, which counts the header, or the refusal.
 pub enum Size {
     Declared(usize),
-    Refused { status: Status },
-}
-
-// What the header gives: the command, or the refusal, whose place is 0.
-pub(crate) enum Header {
-    Command(u8),
     Refused { status: Status },
 }
 
@@ -37,41 +31,32 @@ pub fn read_size(bytes: &[u8]) -> Size
     Size::Declared(size)
 }
 
-// The header of a message of that Size.
-fn header_of_size(bytes: &[u8], size: usize) -> Header
+// What the header of a message of that Size is refused with, or Accepted.
+fn check_after_size(bytes: &[u8], size: usize) -> Status
     requires { ⌜ (4 ≤ length (now bytes)) × (size ≡ sizeIn (now bytes)) × (4 ≤ size) ⌝ }
-    ensures { λ r. ⌜ r ≡ headerOf (now (bytes .entry)) ⌝ }
+    ensures { λ r. ⌜ r ≡ headerStatus (now (bytes .entry)) ⌝ }
 {
     if bytes.len() < size {
-        return Header::Refused {
-            status: Status::Truncated,
-        };
+        return Status::Truncated;
     }
     if size < bytes.len() {
-        return Header::Refused {
-            status: Status::WrongSize,
-        };
+        return Status::WrongSize;
     }
     if bytes[2] != 1 {
-        return Header::Refused {
-            status: Status::WrongHeader,
-        };
+        return Status::WrongHeader;
     }
-    let command = bytes[3];
-    if !rules::known_command(command) {
-        return Header::Refused {
-            status: Status::UnknownKind,
-        };
+    if !rules::known_command(bytes[3]) {
+        return Status::UnknownKind;
     }
-    Header::Command(command)
+    Status::Accepted
 }
 
-// The command of a message, or what its size, version or command is refused with.
-pub(crate) fn read_header(bytes: &[u8]) -> Header
-    ensures { λ r. ⌜ r ≡ headerOf (now (bytes .entry)) ⌝ }
+// What the header of a message is refused with: its size, version or command; or Accepted.
+pub(crate) fn check(bytes: &[u8]) -> Status
+    ensures { λ r. ⌜ r ≡ headerStatus (now (bytes .entry)) ⌝ }
 {
     match read_size(bytes) {
-        Size::Declared(size) => header_of_size(bytes, size),
-        Size::Refused { status } => Header::Refused { status },
+        Size::Declared(size) => check_after_size(bytes, size),
+        Size::Refused { status } => status,
     }
 }

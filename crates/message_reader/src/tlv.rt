@@ -20,15 +20,15 @@ pub(crate) fn tlv_at(bytes: &[u8], at: usize, command: u8, values: &Values) -> T
     requires { ⌜ at ≤ length (now bytes) ⌝ }
     ensures { λ r. ⌜ r ≡ tlvAt (now (bytes .entry)) at (messageFrom command (now (values .entry))) ⌝ }
 {
-    let left = bytes.len() - at;
-    if left < 3 {
+    let start = at + 3;
+    if bytes.len() < start {
         return Tlv::Refused {
             status: Status::TlvTruncated,
         };
     }
     let kind = bytes[at];
     let len = u16_at(bytes, at + 1) as usize;
-    if left - 3 < len {
+    if bytes.len() < start + len {
         return Tlv::Refused {
             status: Status::TlvTruncated,
         };

@@ -8,7 +8,6 @@ ghost use Rattle.message_rules.specs.Record.{emptyOf};
 ghost use Rattle.message_reader.specs.Reading.{hasNeeded, isComplete, tlvsFrom, readMessage};
 ghost use Rattle.message_reader.specs.Values.{none, fieldFrom, messageFrom, valuesAfter, answerNumber};
 use crate::header;
-use crate::header::Header;
 use crate::tlv;
 use crate::tlv::Tlv;
 use message_rules::record::Field;
@@ -58,13 +57,12 @@ fn is_complete(command: u8, values: &Values) -> bool
     true
 }
 
-// The TLVs after the header, from left to right, and last whether one is missing.
+// The TLVs after the header, from left to right, and last whether one is missing. No value is noted yet.
 fn walk(bytes: &[u8], command: u8, values: &mut Values) -> u64
-    requires { ⌜ length (now bytes) ≤ 65535 ⌝ }
+    requires { ⌜ (length (now bytes) ≤ 65535) × (now values ≡ none) ⌝ }
     ensures answer { λ r. ⌜ r ≡ answerNumber (tlvsFrom (length (now (bytes .entry))) (now (bytes .entry)) 4 (emptyOf command)) ⌝ }
     ensures values { λ _. ⌜ now (values .exit) ≡ valuesAfter (tlvsFrom (length (now (bytes .entry))) (now (bytes .entry)) 4 (emptyOf command)) ⌝ }
 {
-    *values = [0u64; 8];
     let mut at = 4;
     while at < bytes.len() {
         match tlv::tlv_at(bytes, at, command, values) {
@@ -89,10 +87,12 @@ pub fn locate(bytes: &[u8], values: &mut Values) -> u64
     ensures answer { λ r. ⌜ r ≡ answerNumber (readMessage (now (bytes .entry))) ⌝ }
     ensures values { λ _. ⌜ now (values .exit) ≡ valuesAfter (readMessage (now (bytes .entry))) ⌝ }
 {
-    match header::read_header(bytes) {
-        Header::Command(command) => walk(bytes, command, values),
-        Header::Refused { status } => refuse(values, status, 0),
+    *values = [0u64; 8];
+    let refusal = status::number(header::check(bytes));
+    if refusal != 0 {
+        return refusal as u64;
     }
+    walk(bytes, bytes[3], values)
 }
 
 // The field of a value; no value begins at 0.

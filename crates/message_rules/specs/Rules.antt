@@ -4,7 +4,6 @@ use mathlib.Core.List.{List, [], _∷_}
 use mathlib.Core.Bool.{Bool, _&&_}
 use lib.ListN.{getD}
 use lib.Dec.{leb, eqb}
-use Rattle.message_rules.specs.declared.rules.Lengths.{Lengths}
 
 -- What a TLV type is to a command: foreign to it, needed, or it may be absent.
 abbrev pub foreign : ℕ
@@ -49,11 +48,14 @@ roleOf c t = getD (rolesOf c) t foreign
 unfoldable pub knownCommand : ℕ → Bool
 knownCommand c = leb 1 c && leb c 6
 
+-- the lengths that a value may have: the least, the greatest, and what they are multiples of
+abbrev pub Lengths : Type 0
+Lengths = ℕ × ℕ × ℕ
+
 abbrev pub noLengths : Lengths
 noLengths = (1, 0, 1)
 
--- 01, "TLV types", and 001 section 2.2.7, by which every value has a byte or more: for each type the least length, the greatest, and what
--- the lengths are multiples of.
+-- 01, "TLV types", and 001 section 2.2.7, by which every value has a byte or more: a row for each type.
 abbrev pub lengths : List Lengths
 lengths =
     -- 0 Friendly Name: an even number of bytes up to 520
@@ -77,6 +79,10 @@ lengths =
 unfoldable pub lengthsOf : ℕ → Lengths
 lengthsOf t = getD lengths t noLengths
 
+-- n is one of these lengths
+unfoldable pub lengthIn : Lengths → ℕ → Bool
+lengthIn l n = leb (l .0) n && (leb n (l .1) && eqb (n % (l .2)) 0)
+
 -- a value of type t may be n bytes long
 unfoldable pub lengthOk : ℕ → ℕ → Bool
-lengthOk t n = leb (lengthsOf t .0) n && (leb n (lengthsOf t .1) && eqb (n % (lengthsOf t .2)) 0)
+lengthOk t n = lengthIn (lengthsOf t) n

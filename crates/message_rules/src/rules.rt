@@ -1,6 +1,7 @@
 // The two tables that reader and writer share: which TLV types a command has, and how long the value of each may be.
 ghost use mathlib.Core.Path.{_≡_};
-ghost use Rattle.message_rules.specs.Rules.{roleOf, lengthsOf, lengthOk, knownCommand};
+ghost use Prim.Native.Nat.{_<_};
+ghost use Rattle.message_rules.specs.Rules.{roleOf, lengthIn, lengthOk, knownCommand};
 
 // What a TLV type is to a command.
 pub const FOREIGN: u8 = 0;
@@ -8,9 +9,6 @@ pub const FOREIGN: u8 = 0;
 pub const NEEDED: u8 = 1;
 
 pub const OPTIONAL: u8 = 2;
-
-// The lengths that a value may have: the least, the greatest, and what they are multiples of.
-struct Lengths(usize, usize, usize);
 
 // Whether there is a message of this command.
 pub fn known_command(command: u8) -> bool
@@ -72,40 +70,40 @@ pub fn role(command: u8, kind: u8) -> u8
     }
 }
 
-// The lengths that a value of a type may have.
-fn lengths_of(kind: u8) -> Lengths
-    ensures { λ r. ⌜ r ≡ lengthsOf kind ⌝ }
+// Whether a length is one from `least` to `most`, and a multiple of `unit`.
+fn within(len: usize, least: usize, most: usize, unit: usize) -> bool
+    requires { ⌜ 0 < unit ⌝ }
+    ensures { λ r. ⌜ r ≡ lengthIn (least, most, unit) len ⌝ }
 {
-    match kind {
-        // Friendly Name: an even number of bytes up to 520
-        0 => Lengths(2, 520, 2),
-        // RTSP Port
-        2 => Lengths(2, 2, 1),
-        // Source ID
-        3 => Lengths(16, 16, 1),
-        // Security Token
-        4 => Lengths(1, 65535, 1),
-        // Security Options
-        5 => Lengths(1, 65535, 1),
-        // PIN Challenge
-        6 => Lengths(1, 65535, 1),
-        // PIN Response Reason
-        7 => Lengths(1, 1, 1),
-        // no such type
-        _ => Lengths(1, 0, 1),
+    if len < least {
+        return false;
     }
+    if most < len {
+        return false;
+    }
+    len % unit == 0
 }
 
 // Whether a value of this type may have this length.
 pub fn length_ok(kind: u8, len: usize) -> bool
     ensures { λ r. ⌜ r ≡ lengthOk kind len ⌝ }
 {
-    let rule = lengths_of(kind);
-    if len < rule.0 {
-        return false;
+    match kind {
+        // Friendly Name: an even number of bytes up to 520
+        0 => within(len, 2, 520, 2),
+        // RTSP Port
+        2 => within(len, 2, 2, 1),
+        // Source ID
+        3 => within(len, 16, 16, 1),
+        // Security Token
+        4 => within(len, 1, 65535, 1),
+        // Security Options
+        5 => within(len, 1, 65535, 1),
+        // PIN Challenge
+        6 => within(len, 1, 65535, 1),
+        // PIN Response Reason
+        7 => within(len, 1, 1, 1),
+        // no such type, so no length
+        _ => within(len, 1, 0, 1),
     }
-    if rule.1 < len {
-        return false;
-    }
-    len % rule.2 == 0
 }

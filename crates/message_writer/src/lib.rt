@@ -6,7 +6,7 @@ ghost use lib.ListN.{length};
 ghost use Rattle.wire.specs.Splice.{splice};
 ghost use Rattle.wire.specs.Below.{allBelow};
 ghost use Rattle.message_rules.specs.Record.{sizeTo};
-ghost use Rattle.message_writer.specs.Writing.{fieldOk, tlvBytes, bodyTo, headBytes, writeAnswer, output};
+ghost use Rattle.message_writer.specs.Writing.{fieldOk, writable, tlvBytes, bodyTo, headBytes, writeAnswer, output};
 use message_rules::record;
 use message_rules::record::Field;
 use message_rules::record::Message;
@@ -45,8 +45,8 @@ fn field_ok(n: usize, message: Message, kind: u8) -> bool
     rules::length_ok(kind, len)
 }
 
-// The size of the record's message, or 0 where one of its fields can't be written.
-fn size_of(n: usize, message: Message) -> usize
+// The size of the header and of the record's TLVs, or 0 where one of its fields can't be written.
+fn size_of_fields(n: usize, message: Message) -> usize
     ensures { λ r. ⌜ r ≡ cond (allBelow 8 (fieldOk n message)) (sizeTo message 8) 0 ⌝ }
 {
     let mut size: usize = 4;
@@ -60,6 +60,20 @@ fn size_of(n: usize, message: Message) -> usize
             size = size + 3 + value.len as usize;
         }
         kind += 1;
+    }
+    size
+}
+
+// The size of the record's message, or 0 where it can't be written.
+fn size_of(n: usize, message: Message) -> usize
+    ensures { λ r. ⌜ r ≡ cond (writable n message) (sizeTo message 8) 0 ⌝ }
+{
+    if !rules::known_command(message.command) {
+        return 0;
+    }
+    let size = size_of_fields(n, message);
+    if 65535 < size {
+        return 0;
     }
     size
 }
@@ -111,20 +125,8 @@ pub fn write(bytes: &[u8], message: Message, out: &mut [u8]) -> Written
     ensures answer { λ r. ⌜ r ≡ writeAnswer (now (bytes .entry)) message (now (out .entry)) ⌝ }
     ensures bytes { λ _. ⌜ now (out .exit) ≡ output (now (bytes .entry)) message (now (out .entry)) ⌝ }
 {
-    if !rules::known_command(message.command) {
-        return Written::Refused {
-            status: Status::NotWritable,
-            place: 0,
-        };
-    }
     let size = size_of(bytes.len(), message);
     if size == 0 {
-        return Written::Refused {
-            status: Status::NotWritable,
-            place: 0,
-        };
-    }
-    if 65535 < size {
         return Written::Refused {
             status: Status::NotWritable,
             place: 0,

@@ -14,9 +14,9 @@ use Rattle.wire.specs.Signed.{signed}
 use Rattle.wire.specs.Status.{numberOf}
 use Rattle.message_reader.specs.declared.Answer.{Answer}
 use Rattle.message_reader.specs.declared.Answer.the-variants as read
-use Rattle.message_rules.specs.Rules.{rolesOf, roleOf, lengthsOf, lengthOk, knownCommand}
+use Rattle.message_rules.specs.Rules.{rolesOf, roleOf, lengthsOf, lengthIn, lengthOk, knownCommand}
 use Rattle.message_rules.specs.Record.{fieldOf, withField, emptyOf}
-use Rattle.message_reader.specs.Reading.{headerOf, hasNeeded, isComplete, tlvAt, lastOf, tlvsFrom, readMessage}
+use Rattle.message_reader.specs.Reading.{headerStatus, hasNeeded, isComplete, tlvAt, lastOf, tlvsFrom, readMessage}
 use Rattle.message_rules.specs.Accessors.{portOf, noSource}
 use Rattle.session_table.specs.declared.record.State.{State}
 use Rattle.session_table.specs.declared.record.State.the-variants as state
@@ -157,7 +157,7 @@ pub examples-hold : allHold examples ≡ true
 unfolding
     examples afterSize withoutPort rtp ofTotal8 isPort isRefused same sameInteger isPosition isNumber isClosed closesIt holds allHold
     allBelow number distance isNewer signed
-    rolesOf roleOf lengthsOf lengthOk knownCommand fieldOf withField emptyOf headerOf hasNeeded isComplete tlvAt lastOf tlvsFrom readMessage portOf
+    rolesOf roleOf lengthsOf lengthIn lengthOk knownCommand fieldOf withField emptyOf headerStatus hasNeeded isComplete tlvAt lastOf tlvsFrom readMessage portOf
     firstOf unusedZero rtpHolds frameChecks positionChecks positionOf readPosition
     takesType headerLength imageData continuationOf offsetOf outside fragmentFrame fragmentChecks
     within digitValue isDigit hexNumber readDigits

@@ -1,7 +1,7 @@
--- The rule of Size, and the header after it. Assumes nothing.
+-- The rule of Size. Assumes nothing.
 use Prim.Native.Nat.{ℕ, _+_, _≤_, _<_}
 use mathlib.Core.Path.{_≡_, refl, ap, subst}
-use mathlib.Core.Bool.{Bool, true, false, not, cond}
+use mathlib.Core.Bool.{cond}
 use mathlib.Core.List.{List, _++_}
 use native.Mathlib.Omega.{arith}
 use native.Mathlib.Decide.{decLt}
@@ -13,11 +13,10 @@ use Rattle.wire.specs.declared.status.Status.{Status}
 use Rattle.wire.specs.declared.status.Status.the-variants as status
 use Rattle.wire.proofs.Laws.Number.{number-same}
 use Rattle.wire.proofs.Laws.Checks.{by-check, by-last-check}
-use Rattle.message_rules.specs.Rules.{knownCommand}
 use Rattle.message_reader.specs.declared.header.Size.{Size}
 use Rattle.message_reader.specs.declared.header.Size.the-variants as size
-use Rattle.message_reader.specs.declared.header.Header.the-variants as header
-use Rattle.message_reader.specs.Reading.{sizeIn, versionIn, commandIn, sizeChecks, readSize, headerOf}
+use Rattle.message_reader.specs.declared.Answer.the-variants as answer
+use Rattle.message_reader.specs.Reading.{sizeIn, sizeChecks, readSize, headerStatus, readMessage}
 
 -- Size counts the header, and n is Size
 pub record Sized (s : List ℕ) (n : ℕ) : Type 0 where
@@ -25,18 +24,22 @@ pub record Sized (s : List ℕ) (n : ℕ) : Type 0 where
   pub size : n ≡ sizeIn s
   pub counted : 4 ≤ n
 
+-- what Size is refused with, the header is, and so the message
+abbrev Refuses : List ℕ → Status → Type 0
+Refuses s st = (st ≡ headerStatus s) × (answer.Refused st 0 ≡ readMessage s)
+
 -- what the answer on Size says
 abbrev OfSize : List ℕ → Size → Type 0
 OfSize s (size.Declared n) = Sized s n
-OfSize s (size.Refused st) = header.Refused st ≡ headerOf s
+OfSize s (size.Refused st) = Refuses s st
 
-short : (s : List ℕ) → length s < 4 → header.Refused status.Truncated ≡ headerOf s
-unfolding firstOf headerOf
-short s h = simp (lt-ltb (length s) 4 h)
+short : (s : List ℕ) → length s < 4 → Refuses s status.Truncated
+unfolding firstOf headerStatus readMessage
+short s h = (simp (lt-ltb (length s) 4 h), simp (lt-ltb (length s) 4 h))
 
-below : (s : List ℕ) → 4 ≤ length s → sizeIn s < 4 → header.Refused status.WrongSize ≡ headerOf s
-unfolding firstOf headerOf
-below s f h = simp (le-ltb (length s) 4 f, lt-ltb (sizeIn s) 4 h)
+below : (s : List ℕ) → 4 ≤ length s → sizeIn s < 4 → Refuses s status.WrongSize
+unfolding firstOf headerStatus readMessage
+below s f h = (simp (le-ltb (length s) 4 f, lt-ltb (sizeIn s) 4 h), simp (le-ltb (length s) 4 f, lt-ltb (sizeIn s) 4 h))
 
 -- what the first refusal of its checks says
 abbrev AtSize : List ℕ → Status → Type 0
@@ -57,7 +60,7 @@ of-size s = at-size s
 pub size-declared : (s : List ℕ) (n : ℕ) → readSize s ≡ size.Declared n → Sized s n
 size-declared s n e = subst (OfSize s) e (of-size s)
 
-pub size-refused : (s : List ℕ) (st : Status) → readSize s ≡ size.Refused st → header.Refused st ≡ headerOf s
+pub size-refused : (s : List ℕ) (st : Status) → readSize s ≡ size.Refused st → Refuses s st
 size-refused s st e = subst (OfSize s) e (of-size s)
 
 pub size-there : (s : List ℕ) → 4 ≤ length s → 4 ≤ sizeIn s → readSize s ≡ size.Declared (sizeIn s)
@@ -85,16 +88,3 @@ size-take s n h = elim (decLt (length s) n) [
       let same : length (take n s) ≡ n = length-take-le n s (omega arith) in
       size-same (take n s) s (omega arith) (omega arith) (number-same 2 (take n s) s 0 0 (λ k b. getD-take n s (0 + k) 0 (omega arith)))
 ]
-
--- with the size and the version right, the command decides
-pub header-known
-    : (s : List ℕ) → 4 ≤ length s → sizeIn s ≡ length s → versionIn s ≡ 1
-    → headerOf s ≡ cond (knownCommand (commandIn s)) (header.Command (commandIn s)) (header.Refused status.UnknownKind)
-unfolding firstOf headerOf
-header-known s f e v = simp (le-ltb (length s) 4 f, e, le-ltb (length s) (length s) (omega arith), v) (go (knownCommand (commandIn s)))
-  where
-    go : (k : Bool)
-        → cond (accepted (cond (not k) status.UnknownKind status.Accepted)) (header.Command (commandIn s)) (header.Refused (cond (not k) status.UnknownKind status.Accepted))
-        ≡ cond k (header.Command (commandIn s)) (header.Refused status.UnknownKind)
-    go true = refl
-    go false = refl

@@ -3,7 +3,7 @@ use Prim.Native.Nat.{ℕ, zero, suc, _+_, _≤_, _<_}
 use mathlib.Core.Path.{_≡_, refl, sym, ap, _∙_, subst}
 use mathlib.Core.List.{List}
 use mathlib.Core.Bool.{true, false, not, cond}
-use mathlib.Core.Logic.{inl, inr}
+use mathlib.Core.Logic.{_⊎_, inl, inr, ⊎-elim}
 use native.Mathlib.Omega.{arith}
 use borrow.Author.Tests.{ltb-true, ltb-false, lt-ltb, le-ltb, eqb-true, eqb-false, eq-eqb, ne-eqb, not-true, not-false}
 use lib.Dec.{ltb, eqb}
@@ -16,14 +16,12 @@ use Rattle.message_rules.specs.declared.record.Field.{Field}
 use Rattle.message_rules.specs.declared.record.Message.{Message}
 use Rattle.message_reader.specs.declared.Answer.{Answer}
 use Rattle.message_reader.specs.declared.Answer.the-variants as answer
-use Rattle.message_reader.specs.declared.header.Header.{Header}
-use Rattle.message_reader.specs.declared.header.Header.the-variants as header
 use Rattle.message_reader.specs.declared.tlv.Tlv.{Tlv}
 use Rattle.message_reader.specs.declared.tlv.Tlv.the-variants as tlv
 use Rattle.message_rules.specs.Rules.{roleOf, foreign, needed, lengthOk, knownCommand}
 use Rattle.message_rules.specs.Record.{fieldOf, withField, emptyOf}
-use Rattle.message_reader.specs.Reading.{sizeIn, versionIn, commandIn, headerChecks, headerOf, typeAt, lengthAt, nextAt, valueAt, tlvChecks, tlvAt}
-use Rattle.message_reader.specs.Reading.{hasNeeded, isComplete, lastOf, goOn, tlvsFrom, afterHeader, readMessage}
+use Rattle.message_reader.specs.Reading.{sizeIn, versionIn, commandIn, headerStatus, typeAt, lengthAt, nextAt, valueAt, tlvChecks, tlvAt}
+use Rattle.message_reader.specs.Reading.{hasNeeded, isComplete, lastOf, goOn, tlvsFrom, readMessage}
 use Rattle.message_reader.specs.Theorems.{Headed, RightTlv, Reached, Fault, Refusal, Acceptance, RefusedExactly, AcceptedExactly}
 use Rattle.message_reader.specs.Theorems as given
 use Rattle.wire.proofs.Laws.Bool.{by-test, not-both}
@@ -184,46 +182,59 @@ of-tlvs s h (suc k) at m r a f =
     (λ e. after-tlv s at m k h r (ltb-true at (length s) e) f (of-tlvs s h k) (tlvAt s at m) (of-tlv s at m))
     (λ e. let b = ltb-false at (length s) e in let q : at ≡ length s = omega arith in of-last s m h (subst (λ (i : ℕ). Reached s i m) q r))
 
--- what the header's answer says
-abbrev OfHeader : List ℕ → Header → Type 0
-OfHeader s (header.Command c) = Headed s × (c ≡ commandIn s)
-OfHeader s (header.Refused st) = Refusal s st 0
+-- no refusal has the number 0
+fault-number : (s : List ℕ) (at : ℕ) (m : Message) (st : Status) → Fault s at m st → numberOf st ≡ 0 → ⊥
+fault-number s at m st (given.truncated h) e = omega arith
+fault-number s at m st (given.unexpected w r) e = omega arith
+fault-number s at m st (given.length-wrong w r l) e = omega arith
+fault-number s at m st (given.repeated w r l f) e = omega arith
 
--- what the first refusal of its checks says
-abbrev AtHeader : List ℕ → Status → Type 0
-AtHeader s st = OfHeader s (cond (accepted st) (header.Command (commandIn s)) (header.Refused st))
+pub refusal-number : (s : List ℕ) (st : Status) (place : ℕ) → Refusal s st place → numberOf st ≡ 0 → ⊥
+refusal-number s st place (given.before-header h) e = omega arith
+refusal-number s st place (given.before-size a b h) e = omega arith
+refusal-number s st place (given.below-header a h) e = omega arith
+refusal-number s st place (given.left-over b h) e = omega arith
+refusal-number s st place (given.version a b h) e = omega arith
+refusal-number s st place (given.command a b v h) e = omega arith
+refusal-number s st place (given.tlv {m = m} h r a f) e = fault-number s place m st f e
+refusal-number s st place (given.missing t h r n g) e = omega arith
 
-at-header : (s : List ℕ) → AtHeader s (firstOf (headerChecks s))
-at-header s =
-    let P = AtHeader s in
-    by-check P status.Truncated _ _ (λ e. given.before-header (ltb-true (length s) 4 e))
+-- a header is right, or the message is refused with its status
+of-header : (s : List ℕ) → Headed s ⊎ Refusal s (headerStatus s) 0
+unfolding headerStatus
+of-header s =
+    let P : Status → Type 0 = λ st. Headed s ⊎ Refusal s st 0 in
+    by-check P status.Truncated _ _ (λ e. inr (given.before-header (ltb-true (length s) 4 e)))
     (λ a.
     let four = ltb-false (length s) 4 a in
-    by-check P status.WrongSize _ _ (λ e. given.below-header four (ltb-true (sizeIn s) 4 e))
+    by-check P status.WrongSize _ _ (λ e. inr (given.below-header four (ltb-true (sizeIn s) 4 e)))
     (λ b.
     let size = ltb-false (sizeIn s) 4 b in
-    by-check P status.Truncated _ _ (λ e. given.before-size four size (ltb-true (length s) (sizeIn s) e))
+    by-check P status.Truncated _ _ (λ e. inr (given.before-size four size (ltb-true (length s) (sizeIn s) e)))
     (λ d.
-    by-check P status.WrongSize _ _ (λ e. given.left-over size (ltb-true (sizeIn s) (length s) e))
+    by-check P status.WrongSize _ _ (λ e. inr (given.left-over size (ltb-true (sizeIn s) (length s) e)))
     (λ l.
     let all : sizeIn s ≡ length s = omega (arith, ltb-false (length s) (sizeIn s) d, ltb-false (sizeIn s) (length s) l) in
-    by-check P status.WrongHeader _ _ (λ e. given.version four all (eqb-false (versionIn s) 1 (not-true (eqb (versionIn s) 1) e)))
+    by-check P status.WrongHeader _ _ (λ e. inr (given.version four all (eqb-false (versionIn s) 1 (not-true (eqb (versionIn s) 1) e))))
     (λ v.
     let one = eqb-true (versionIn s) 1 (not-false (eqb (versionIn s) 1) v) in
-    by-last-check P status.UnknownKind _ (λ e. given.command four all one (not-true (knownCommand (commandIn s)) e))
-    (λ k. (record { four = four; size = all; version = one; command = not-false (knownCommand (commandIn s)) k }, refl)))))))
+    by-last-check P status.UnknownKind _ (λ e. inr (given.command four all one (not-true (knownCommand (commandIn s)) e)))
+    (λ k. inl (record { four = four; size = all; version = one; command = not-false (knownCommand (commandIn s)) k })))))))
 
-of-header : (s : List ℕ) → OfHeader s (headerOf s)
-unfolding headerOf
-of-header s = at-header s
+pub header-right : (s : List ℕ) → numberOf (headerStatus s) ≡ 0 → Headed s
+header-right s z = ⊎-elim (λ h. h) (λ r. absurd (refusal-number s (headerStatus s) 0 r z)) (of-header s)
 
--- a header that gives a command is right, and the command is the one that stands there
-pub header-command : (s : List ℕ) (c : ℕ) → headerOf s ≡ header.Command c → Headed s × (c ≡ commandIn s)
-header-command s c e = subst (OfHeader s) e (of-header s)
-
-pub header-refused : (s : List ℕ) (st : Status) → headerOf s ≡ header.Refused st → answer.Refused st 0 ≡ readMessage s
+pub header-refused : (s : List ℕ) → (numberOf (headerStatus s) ≡ 0 → ⊥) → answer.Refused (headerStatus s) 0 ≡ readMessage s
 unfolding readMessage
-header-refused s st e = sym (ap (afterHeader s) e)
+header-refused s n = simp (ne-eqb (numberOf (headerStatus s)) 0 n)
+
+-- a right header leaves the TLVs to be read
+pub headed-read : (s : List ℕ) → Headed s → readMessage s ≡ tlvsFrom (length s) s 4 (emptyOf (commandIn s))
+unfolding readMessage firstOf headerStatus
+headed-read s h =
+    let e = h .size in
+    let f = h .four in
+    simp (le-ltb (length s) 4 f, e, le-ltb (length s) (length s) (omega arith), h .version, h .command)
 
 -- Size is a number of two bytes
 pub headed-short : (s : List ℕ) → ((k : ℕ) → getD s k 0 < 256) → Headed s → length s ≤ 65535
@@ -232,22 +243,12 @@ headed-short s small h =
     let n = number-small 2 0 s small in
     omega arith
 
-after-header : (s : List ℕ) (x : Header) → OfHeader s x → OfAnswer s (afterHeader s x)
-after-header s (header.Command c) p =
-    let h = p .0 in rw (p .1) (of-tlvs s h (length s) 4 (emptyOf (commandIn s)) given.start (h .four) (omega arith))
-after-header s (header.Refused st) p = p
-
 of-read : (s : List ℕ) → OfAnswer s (readMessage s)
-unfolding readMessage
-of-read s = after-header s (headerOf s) (of-header s)
-
--- a right header leaves the TLVs to be read
-pub headed-read : (s : List ℕ) → Headed s → readMessage s ≡ tlvsFrom (length s) s 4 (emptyOf (commandIn s))
-unfolding readMessage firstOf headerOf
-headed-read s h =
-    let e = h .size in
-    let f = h .four in
-    simp (le-ltb (length s) 4 f, e, le-ltb (length s) (length s) (omega arith), h .version, h .command)
+of-read s =
+    ⊎-elim
+    (λ h. rw (headed-read s h) (of-tlvs s h (length s) 4 (emptyOf (commandIn s)) given.start (h .four) (omega arith)))
+    (λ r. subst (OfAnswer s) (header-refused s (refusal-number s (headerStatus s) 0 r)) r)
+    (of-header s)
 
 -- what was reached is still to be answered
 reached-rest
@@ -260,7 +261,7 @@ reached-rest s at m f (given.next r t) =
     (q .0, q .1, q .2, q .3 ∙ b .3)
 
 refused : (s : List ℕ) (st : Status) (place : ℕ) → Refusal s st place → readMessage s ≡ answer.Refused st place
-unfolding readMessage firstOf headerOf lastOf isComplete
+unfolding readMessage firstOf headerStatus lastOf isComplete
 refused s st place (given.before-header h) = simp (lt-ltb (length s) 4 h)
 refused s st place (given.before-size a b h) = simp (le-ltb (length s) 4 a, le-ltb (sizeIn s) 4 b, lt-ltb (length s) (sizeIn s) h)
 refused s st place (given.below-header a h) = simp (le-ltb (length s) 4 a, lt-ltb (sizeIn s) 4 h)
@@ -290,20 +291,3 @@ refused-exactly s st place = (λ e. subst (OfAnswer s) e (of-read s), refused s 
 pub accepted-exactly : AcceptedExactly
 unfolding AcceptedExactly
 accepted-exactly s m = (λ e. subst (OfAnswer s) e (of-read s), accepts s m)
-
--- no refusal has the number 0
-fault-number : (s : List ℕ) (at : ℕ) (m : Message) (st : Status) → Fault s at m st → numberOf st ≡ 0 → ⊥
-fault-number s at m st (given.truncated h) e = omega arith
-fault-number s at m st (given.unexpected w r) e = omega arith
-fault-number s at m st (given.length-wrong w r l) e = omega arith
-fault-number s at m st (given.repeated w r l f) e = omega arith
-
-pub refusal-number : (s : List ℕ) (st : Status) (place : ℕ) → Refusal s st place → numberOf st ≡ 0 → ⊥
-refusal-number s st place (given.before-header h) e = omega arith
-refusal-number s st place (given.before-size a b h) e = omega arith
-refusal-number s st place (given.below-header a h) e = omega arith
-refusal-number s st place (given.left-over b h) e = omega arith
-refusal-number s st place (given.version a b h) e = omega arith
-refusal-number s st place (given.command a b v h) e = omega arith
-refusal-number s st place (given.tlv {m = m} h r a f) e = fault-number s place m st f e
-refusal-number s st place (given.missing t h r n g) e = omega arith

@@ -21,7 +21,7 @@ use Rattle.message_reader.specs.Reading.{sizeIn, readSize, readMessage}
 use Rattle.message_reader.specs.Theorems.{Bytes, Refusal, RefusedExactly, AcceptedExactly}
 use Rattle.message_reader.specs.Theorems as given
 use Rattle.message_reader.proofs.Laws.Header.{size-declared, size-refused, size-there, size-below, size-append, size-take}
-use Rattle.message_reader.proofs.Laws.Reading.{header-refused, refused-exactly, accepted-exactly}
+use Rattle.message_reader.proofs.Laws.Reading.{refused-exactly, accepted-exactly}
 use Rattle.message_recording.specs.declared.line.Line.{Line}
 use Rattle.message_recording.specs.declared.line.Line.the-variants as line
 use Rattle.message_recording.specs.Cut.{bytesFor, neededOf}
@@ -92,8 +92,7 @@ whole s m (size.Declared n) e f =
     let h = accepted-exactly (take n s) m .0 f .headed in
     record { size = sym (d .size); four = d .counted; there = there s n (t .size ∙ h .size); accepted = f; command = refl }
 whole s m (size.Refused st) e f =
-    let g = header-refused (take 4 s) st (sym (size-refused (take 4 s) st (size-take s 4 (omega arith) ∙ e))) in
-    let no = g ∙ f in
+    let no = size-refused (take 4 s) st (size-take s 4 (omega arith) ∙ e) .1 ∙ f in
     impossible (cc)
 
 of-shown : (s : List ℕ) → 0 < length s → (a : Answer) → readMessage (take (neededOf s) s) ≡ a → OfLine s (shown (neededOf s) a)
@@ -147,8 +146,7 @@ line-short s h l =
 line-refused : (s : List ℕ) → 0 < length s → (st : Status) → readSize s ≡ size.Refused st → lineOf s ≡ line.Refused st
 unfolding neededOf
 line-refused s h st e =
-    line-of s h
-    ∙ rw (e, sym (header-refused (take 4 s) st (sym (size-refused (take 4 s) st (size-take s 4 (omega arith) ∙ e)))))
+    line-of s h ∙ rw (e, sym (size-refused (take 4 s) st (size-take s 4 (omega arith) ∙ e) .1))
 
 pub cut-by-size : CutBySize
 unfolding CutBySize

@@ -8,7 +8,7 @@ use native.Mathlib.Decide.{decLt}
 use borrow.Author.Tests.{leb-true, eqb-true, eqb-false, ne-eqb}
 use lib.Dec.{leb, eqb}
 use lib.ListN.{length, getD, List·getD-eq-default}
-use Rattle.message_rules.specs.Rules.{foreign, noRoles, rolesOf, roleOf, noLengths, lengthsOf, lengthOk}
+use Rattle.message_rules.specs.Rules.{foreign, noRoles, rolesOf, roleOf, noLengths, lengthsOf, lengthIn, lengthOk}
 use Rattle.wire.specs.Below.{allBelow}
 use Rattle.wire.proofs.Laws.Below.{below-all}
 use Rattle.wire.proofs.Laws.Bool.{both}
@@ -106,8 +106,8 @@ no-lengths (suc (suc (suc (suc (suc (suc zero)))))) z a b d e f g = absurd (f re
 no-lengths (suc (suc (suc (suc (suc (suc (suc zero))))))) z a b d e f g = absurd (g refl)
 no-lengths (suc (suc (suc (suc (suc (suc (suc (suc t)))))))) z a b d e f g = refl
 
--- two bytes hold the greatest length, and lengths are multiples of no 0
-pub length-rule : (t : ℕ) → (lengthsOf t .1 ≤ 65535) × (0 < lengthsOf t .2)
+-- two bytes hold the greatest length
+length-rule : (t : ℕ) → lengthsOf t .1 ≤ 65535
 unfolding lengthsOf
 length-rule zero = omega arith
 length-rule (suc zero) = omega arith
@@ -120,9 +120,9 @@ length-rule (suc (suc (suc (suc (suc (suc (suc zero))))))) = omega arith
 length-rule (suc (suc (suc (suc (suc (suc (suc (suc t)))))))) = omega arith
 
 pub length-held : (t n : ℕ) → lengthOk t n ≡ true → n ≤ 65535
-unfolding lengthOk
+unfolding lengthIn lengthOk
 length-held t n e =
     let l = lengthsOf t in
     let h = both (leb (l .0) n) (leb n (l .1) && eqb (n % (l .2)) 0) e in
     let k = both (leb n (l .1)) (eqb (n % (l .2)) 0) (h .1) in
-    omega (arith, leb-true n (l .1) (k .0), length-rule t .0)
+    omega (arith, leb-true n (l .1) (k .0), length-rule t)

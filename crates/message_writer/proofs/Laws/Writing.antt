@@ -140,8 +140,11 @@ module _ (s : List ℕ) (m : Message) (w : writable (length s) m ≡ true) where
   pub known : knownCommand (m .command) ≡ true
   known = parts .0
 
+  pub all-ok : allBelow 8 (fieldOk (length s) m) ≡ true
+  all-ok = parts .1
+
   pub ok-below : (t : ℕ) → t < 8 → fieldOk (length s) m t ≡ true
-  ok-below = below-all (fieldOk (length s) m) 8 (parts .1)
+  ok-below = below-all (fieldOk (length s) m) 8 all-ok
 
   pub size-small : sizeTo m 8 ≤ 65535
   size-small = leb-true (sizeTo m 8) 65535 (parts .2)
@@ -199,10 +202,10 @@ or-size : (b : Bool) (x r : ℕ) → r ≡ cond b x 0 → (r ≡ 0 → ⊥) → 
 or-size true x r e n = (refl, e)
 or-size false x r e n = absurd (n e)
 
--- A size is 4 or more, so that 0 says that a field can't be written, and any other number is the size.
-module _ (n : ℕ) (m : Message) (r : ℕ) (e : r ≡ cond (allBelow 8 (fieldOk n m)) (sizeTo m 8) 0) where
-  pub sized-not : r ≡ 0 → allBelow 8 (fieldOk n m) ≡ false
-  sized-not = or-zero (allBelow 8 (fieldOk n m)) (sizeTo m 8) r e (size-least m 8)
+-- A size is 4 or more, so that 0 says that the record can't be written, and any other number is the size.
+module _ (n : ℕ) (m : Message) (r : ℕ) (e : r ≡ cond (writable n m) (sizeTo m 8) 0) where
+  pub sized-not : r ≡ 0 → writable n m ≡ false
+  sized-not = or-zero (writable n m) (sizeTo m 8) r e (size-least m 8)
 
-  pub sized : (r ≡ 0 → ⊥) → (allBelow 8 (fieldOk n m) ≡ true) × (r ≡ sizeTo m 8)
-  sized = or-size (allBelow 8 (fieldOk n m)) (sizeTo m 8) r e
+  pub sized : (r ≡ 0 → ⊥) → (writable n m ≡ true) × (r ≡ sizeTo m 8)
+  sized = or-size (writable n m) (sizeTo m 8) r e

@@ -18,37 +18,16 @@ use Rattle.message_reader.proofs.Laws.Values.{found-there, found-absent
 use Rattle.message_reader.proofs.tlv.tlv_at.Statement.{statement}
 use Rattle.message_reader.proofs.tlv.tlv_at.Tie as tie
 
-sub-left : tie.Need-sub-left
-sub-left c = search needs
-
 returns : tie.Need-returns
 returns c = sym (tlv-refused _ _ _ _ (given.truncated (inl (omega arith))))
 
-shared-slice-read-kind : tie.Need-shared-slice-read-kind
-shared-slice-read-kind c = search needs
-
-add-u16-at : tie.Need-add-u16-at
-add-u16-at c = search needs
-
-u16-at-requires : tie.Need-u16-at-requires
-u16-at-requires c κs = search needs
-
-cast-len : tie.Need-cast-len
-cast-len c = search needs
-
 returns-2 : tie.Need-returns-2
 returns-2 c = sym (tlv-refused _ _ _ _ (given.truncated (inr (omega (arith, c .before .u16-at .ensures)))))
-
-role-requires : tie.Need-role-requires
-role-requires c κs = search needs
 
 returns-3 : tie.Need-returns-3
 unfolding messageFrom
 returns-3 c =
     sym (tlv-refused _ _ _ _ (given.unexpected (omega (arith, c .before .before .before .u16-at .ensures)) (sym (c .before .role .ensures) ∙ c .if3 .taken)))
-
-length-ok-requires : tie.Need-length-ok-requires
-length-ok-requires c κs = search needs
 
 returns-4 : tie.Need-returns-4
 unfolding messageFrom
@@ -63,15 +42,6 @@ returns-4 c =
 own : (c : tie.After-length-ok)
     → eqb (roleOf (c .before .before .before .before .before .before .before .before .args .command) (typeAt (now (c .before .before .before .before .before .before .before .before .args .bytes)) (c .before .before .before .before .before .before .before .before .args .at))) foreign ≡ false
 own c = ne-eqb _ foreign (λ e. c .before .if3 .left (c .before .before .role .ensures ∙ e))
-
-cast-if5 : tie.Need-cast-if5
-cast-if5 c = omega (arith, type-small _ _ (own (c .before)))
-
-mul-if5 : tie.Need-mul-if5
-mul-if5 c = omega (arith, type-small _ _ (own (c .before)))
-
-element-copy-out-if5 : tie.Need-element-copy-out-if5
-element-copy-out-if5 c = omega (arith, type-small _ _ (own (c .before)))
 
 returns-5 : tie.Need-returns-5
 unfolding messageFrom
@@ -105,19 +75,20 @@ pub tlv-at-spec : {M : Type 1} → statement M
 tlv-at-spec =
     tie.close
     (tie.spec
-    sub-left
+    (λ c. search needs)
     returns
-    shared-slice-read-kind
-    add-u16-at
-    u16-at-requires
-    cast-len
+    (λ c. search needs)
+    (λ c. search needs)
+    (λ c κs. search needs)
+    (λ c. search needs)
+    (λ c. search needs)
     returns-2
-    role-requires
+    (λ c κs. search needs)
     returns-3
-    length-ok-requires
+    (λ c κs. search needs)
     returns-4
-    cast-if5
-    mul-if5
-    element-copy-out-if5
+    (λ c. omega (arith, type-small _ _ (own (c .before))))
+    (λ c. omega (arith, type-small _ _ (own (c .before))))
+    (λ c. omega (arith, type-small _ _ (own (c .before))))
     returns-5
     returns-6)

@@ -1,6 +1,6 @@
 -- The values found so far are those of the record so far, and each turn finds one TLV more. Assumes nothing.
 use Prim.Native.Nat.{_-_}
-use mathlib.Core.Path.{refl, sym, ap, _∙_}
+use mathlib.Core.Path.{sym, ap, _∙_}
 use native.Mathlib.Omega.{arith}
 use borrow.Author.Needs.{needs}
 use denote.Ref.{now}
@@ -20,56 +20,20 @@ abbrev μ-loop : tie.MeasureT-loop
 -- the TLV that was found lies within the bytes, and its type is one that there is
 fits
     : (c : tie.After-known-told Inv-loop μ-loop)
-    → Fits (now (c .before .before .before .before .before .before .before .before .before .args .bytes)) (c .before .before .before .before .before .before .loop .at) (c .before .kind .given .0 .0) (c .before .kind .given .0 .1 .0)
+    → Fits (now (c .before .before .before .before .before .before .before .before .args .bytes)) (c .before .before .before .before .before .before .loop .at) (c .before .kind .given .0 .0) (c .before .kind .given .0 .1 .0)
 fits c =
     let k = c .before .before .before in
     let l = k .before .before in
     walked-fits (l .before .loop .inv) (l .loop-test .taken) _ _ (sym (k .tlv-at .ensures) ∙ c .before .kind .given .1)
 
 loop-holds : tie.Need-loop-holds Inv-loop μ-loop
-loop-holds c = walked-start _ _ _ (c .before .before .pre) refl
-
-tlv-at-requires : tie.Need-tlv-at-requires Inv-loop μ-loop
-tlv-at-requires c κs = search needs
-
-enum-known-kind : tie.Need-enum-known-kind Inv-loop μ-loop
-enum-known-kind c = search needs
-
-add-values : tie.Need-add-values Inv-loop μ-loop
-add-values c = omega (arith, fits c .whole)
-
-mul-values : tie.Need-mul-values Inv-loop μ-loop
-mul-values c = omega (arith, fits c .whole, c .before .before .before .before .before .before .loop .inv .short)
-
-add-values-2 : tie.Need-add-values-2 Inv-loop μ-loop
-add-values-2 c = omega (arith, fits c .whole, c .before .before .before .before .before .before .loop .inv .short)
-
-cast-values : tie.Need-cast-values Inv-loop μ-loop
-cast-values c = omega (arith, fits c .small)
-
-mul-values-2 : tie.Need-mul-values-2 Inv-loop μ-loop
-mul-values-2 c = omega (arith, fits c .small)
-
-element-write-values : tie.Need-element-write-values Inv-loop μ-loop
-element-write-values c = omega (arith, fits c .small, c .before .before .before .before .before .before .loop .inv .eight .eight)
-
-add-at : tie.Need-add-at Inv-loop μ-loop
-add-at c = omega (arith, fits c .whole)
-
-add-at-2 : tie.Need-add-at-2 Inv-loop μ-loop
-add-at-2 c = omega (arith, fits c .whole)
-
-loop-less : tie.Need-loop-less Inv-loop μ-loop
-loop-less c = omega (arith, fits c .whole)
+loop-holds c = walked-start _ _ _ (c .before .pre .0) (c .before .pre .1)
 
 loop-again : tie.Need-loop-again Inv-loop μ-loop
 loop-again c =
     let k = c .before .before .before in
     let l = k .before .before in
     walked-next (l .before .loop .inv) (l .loop-test .taken) _ _ (sym (k .tlv-at .ensures) ∙ c .before .kind .given .1)
-
-enum-known-status : tie.Need-enum-known-status Inv-loop μ-loop
-enum-known-status c = search needs
 
 refuse-requires : tie.Need-refuse-requires Inv-loop μ-loop
 refuse-requires c κs =
@@ -85,12 +49,6 @@ returns c =
     let r = c .refuse .ensures in
     (r .0 ∙ ap answerNumber w, r .1 ∙ ap valuesAfter w)
 
-is-complete-requires : tie.Need-is-complete-requires Inv-loop μ-loop
-is-complete-requires c κs = search needs
-
-mul-result : tie.Need-mul-result Inv-loop μ-loop
-mul-result c = search needs
-
 returns-2 : tie.Need-returns-2 Inv-loop μ-loop
 unfolding messageFrom
 returns-2 c =
@@ -98,9 +56,6 @@ returns-2 c =
     let g = t .before .loop .inv in
     let w = walked-complete g (t .loop-test .left) (sym (c .before .is-complete .ensures) ∙ c .if1 .taken) in
     (ap answerNumber w, values-back _ _ (g .eight) ∙ ap valuesAfter w)
-
-refuse-requires-2 : tie.Need-refuse-requires-2 Inv-loop μ-loop
-refuse-requires-2 c κs = omega (arith, c .before .before .before .before .before .loop .inv .short)
 
 returns-3 : tie.Need-returns-3 Inv-loop μ-loop
 returns-3 c =
@@ -117,23 +72,23 @@ walk-spec =
     Inv-loop
     μ-loop
     loop-holds
-    tlv-at-requires
-    enum-known-kind
-    add-values
-    mul-values
-    add-values-2
-    cast-values
-    mul-values-2
-    element-write-values
-    add-at
-    add-at-2
-    loop-less
+    (λ c κs. search needs)
+    (λ c. search needs)
+    (λ c. omega (arith, fits c .whole))
+    (λ c. omega (arith, fits c .whole, c .before .before .before .before .before .before .loop .inv .short))
+    (λ c. omega (arith, fits c .whole, c .before .before .before .before .before .before .loop .inv .short))
+    (λ c. omega (arith, fits c .small))
+    (λ c. omega (arith, fits c .small))
+    (λ c. omega (arith, fits c .small, c .before .before .before .before .before .before .loop .inv .eight .eight))
+    (λ c. omega (arith, fits c .whole))
+    (λ c. omega (arith, fits c .whole))
+    (λ c. omega (arith, fits c .whole))
     loop-again
-    enum-known-status
+    (λ c. search needs)
     refuse-requires
     returns
-    is-complete-requires
-    mul-result
+    (λ c κs. search needs)
+    (λ c. search needs)
     returns-2
-    refuse-requires-2
+    (λ c κs. omega (arith, c .before .before .before .before .before .loop .inv .short))
     returns-3)

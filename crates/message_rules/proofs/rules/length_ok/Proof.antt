@@ -1,38 +1,39 @@
--- The three tests are those of the definition. Assumes nothing.
-use borrow.Author.Tests.{le-leb, lt-leb}
-use Rattle.message_rules.specs.Rules.{lengthOk}
-use Rattle.message_rules.proofs.Laws.Rules.{length-rule}
+-- Each arm has the lengths of its row of the table. Assumes nothing.
+use Prim.Native.Nat.{ℕ}
+use mathlib.Core.Path.{_≡_, sym, ap, _∙_}
+use mathlib.Core.Bool.{Bool}
+use Rattle.message_rules.specs.Rules.{lengthsOf, lengthIn, lengthOk}
+use Rattle.message_rules.proofs.Laws.Rules.{no-lengths}
 use borrow.Author.Needs.{needs}
 use Rattle.message_rules.proofs.rules.length_ok.Statement.{statement}
 use Rattle.message_rules.proofs.rules.length_ok.Tie as tie
 
-lengths-of-requires : tie.Need-lengths-of-requires
-lengths-of-requires c κs = search needs
-
-returns : tie.Need-returns
-unfolding lengthOk
-returns c = simp (← c .before .before .lengths-of .ensures, lt-leb _ _ (c .if1 .taken))
-
-returns-2 : tie.Need-returns-2
-unfolding lengthOk
-returns-2 c =
-    let lengths-of = c .before .before .before .before .lengths-of in
-    let if1 = c .before .before .if1 in
-    simp (← lengths-of .ensures, le-leb _ _ (if1 .left), lt-leb _ _ (c .if2 .taken))
-
-rem-result : tie.Need-rem-result
-rem-result c =
-    let args = c .before .before .before .before .before .before .args in
-    let lengths-of = c .before .before .before .before .before .lengths-of in
-    let k = length-rule (args .kind) in
-    rw (lengths-of .ensures) (k .1)
-
-returns-3 : tie.Need-returns-3
-unfolding lengthOk
-returns-3 c =
-    let lengths-of = c .before .before .before .before .before .lengths-of in
-    let if1 = c .before .before .before .if1 in
-    simp (← lengths-of .ensures, le-leb _ _ (if1 .left), le-leb _ _ (c .before .if2 .left))
+-- a type's length is one of its row
+row : (a : ℕ) {k : ℕ} (n : ℕ) {r : Bool} → k ≡ a → r ≡ lengthOk a n → r ≡ lengthOk k n
+row a n e h = h ∙ sym (ap (λ (i : ℕ). lengthOk i n) e)
 
 pub length-ok-spec : {M : Type 1} → statement M
-length-ok-spec = tie.close (tie.spec lengths-of-requires returns returns-2 rem-result returns-3)
+unfolding lengthsOf lengthOk
+length-ok-spec =
+    tie.close
+    (tie.spec
+    (λ c κs. search needs)
+    (λ c κs. search needs)
+    (λ c κs. search needs)
+    (λ c κs. search needs)
+    (λ c κs. search needs)
+    (λ c κs. search needs)
+    (λ c κs. search needs)
+    (λ c κs. search needs)
+    (λ c. row 0 _ (c .before .match .keys1) (c .within .ensures))
+    (λ c. row 2 _ (c .before .match .keys2) (c .within2 .ensures))
+    (λ c. row 3 _ (c .before .match .keys3) (c .within3 .ensures))
+    (λ c. row 4 _ (c .before .match .keys4) (c .within4 .ensures))
+    (λ c. row 5 _ (c .before .match .keys5) (c .within5 .ensures))
+    (λ c. row 6 _ (c .before .match .keys6) (c .within6 .ensures))
+    (λ c. row 7 _ (c .before .match .keys7) (c .within7 .ensures))
+    (λ c.
+    let r = c .before .match .rest in
+    let n = c .before .before .args .len in
+    c .within8 .ensures
+    ∙ sym (ap (λ l. lengthIn l n) (no-lengths _ (r .0 .0 .0 .0 .0 .0 .1) (r .0 .0 .0 .0 .0 .1) (r .0 .0 .0 .0 .1) (r .0 .0 .0 .1) (r .0 .0 .1) (r .0 .1) (r .1)))))
