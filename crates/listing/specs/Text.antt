@@ -22,10 +22,6 @@ decimal n = decimalTo 20 n
 abbrev pub twoDigits : ℕ → List ℕ
 twoDigits n = (48 + n / 10) ∷ (48 + n % 10) ∷ []
 
--- the four digits of a number below 10,000
-abbrev pub fourDigits : ℕ → List ℕ
-fourDigits n = twoDigits (n / 100) ++ twoDigits (n % 100)
-
 abbrev pub newline : List ℕ
 newline = 10 ∷ []
 

@@ -1,7 +1,7 @@
 // A line as text (01, "Session listing"), put into bytes that are written later.
 ghost use Prim.Native.Nat.{_+_, _≤_, _<_};
 ghost use lib.ListN.{length};
-ghost use Rattle.listing.specs.Text.{Put, twoDigits, fourDigits, decimal, messageText, refusedText, endText, textOf};
+ghost use Rattle.listing.specs.Text.{Put, twoDigits, decimal, messageText, refusedText, endText, textOf};
 use message_recording::line::Line;
 use wire::status;
 
@@ -41,37 +41,22 @@ fn put_short(out: &mut [u8], at: usize, n: u64) -> usize
     put_two(out, at, n)
 }
 
-// Puts the four digits of a number below 10,000.
-fn put_four(out: &mut [u8], at: usize, n: u64) -> usize
-    requires { ⌜ (n < 10000) × (at + 4 ≤ length (now out)) ⌝ }
-    ensures { λ r. ⌜ Put (now (out .entry)) at (fourDigits n) r (now (out .exit)) ⌝ }
-{
-    let at = put_two(out, at, n / 100);
-    put_two(out, at, n % 100)
-}
-
-// Puts a number below 10,000, which has one digit to four.
-fn put_front(out: &mut [u8], at: usize, n: u64) -> usize
-    requires { ⌜ (n < 10000) × (at + length (decimal n) ≤ length (now out)) ⌝ }
-    ensures { λ r. ⌜ Put (now (out .entry)) at (decimal n) r (now (out .exit)) ⌝ }
-{
-    if n < 100 {
-        return put_short(out, at, n);
-    }
-    let at = put_short(out, at, n / 100);
-    put_two(out, at, n % 100)
-}
-
 // Puts a number of any length: its last four digits after those before them.
 fn put_long(out: &mut [u8], at: usize, n: u64) -> usize
     requires { ⌜ at + length (decimal n) ≤ length (now out) ⌝ }
     ensures { λ r. ⌜ Put (now (out .entry)) at (decimal n) r (now (out .exit)) ⌝ }
 {
+    if n < 100 {
+        return put_short(out, at, n);
+    }
     if n < 10000 {
-        return put_front(out, at, n);
+        let at = put_short(out, at, n / 100);
+        return put_two(out, at, n % 100);
     }
     let at = put_long(out, at, n / 10000);
-    put_four(out, at, n % 10000)
+    let low = n % 10000;
+    let at = put_two(out, at, low / 100);
+    put_two(out, at, low % 100)
 }
 
 // Puts n in decimal. Most numbers of a line have one digit or two.

@@ -10,7 +10,7 @@ use lib.Dec.{ltb}
 use lib.ListN.{length, take, set, length-append, length-set}
 use lib.Seq.{take-suc-set}
 use Rattle.wire.proofs.Laws.Bool.{by-test}
-use Rattle.listing.specs.Text.{decimalTo, decimal, twoDigits, fourDigits, Put}
+use Rattle.listing.specs.Text.{decimalTo, decimal, twoDigits, Put}
 
 -- k digits at most
 decimal-to-length : (k n : ℕ) → length (decimalTo k n) ≤ k
@@ -68,21 +68,22 @@ decimal-pair n l h =
     (append-assoc (decimalTo 18 (n / 100)) ((48 + n % 100 / 10) ∷ []) ((48 + n % 100 % 10) ∷ []))
 
 -- the last four
-pub decimal-four : (n : ℕ) → 10000 ≤ n → n < 2 ^ 64 → decimal n ≡ decimal (n / 10000) ++ fourDigits (n % 10000)
+pub decimal-four
+    : (n : ℕ) → 10000 ≤ n → n < 2 ^ 64 → decimal n ≡ (decimal (n / 10000) ++ twoDigits (n % 10000 / 100)) ++ twoDigits (n % 10000 % 100)
 decimal-four n l h =
     let part : n / 100 / 100 ≡ n / 10000 = omega arith in
     let first : n / 100 % 100 ≡ n % 10000 / 100 = omega arith in
     let second : n % 100 ≡ n % 10000 % 100 = omega arith in
-    decimal-pair n (omega arith) h
-    ∙ rw (decimal-pair (n / 100) (omega arith) (omega arith), part, first, second)
-    (append-assoc (decimal (n / 10000)) (twoDigits (n % 10000 / 100)) (twoDigits (n % 10000 % 100)))
+    decimal-pair n (omega arith) h ∙ rw (decimal-pair (n / 100) (omega arith) (omega arith), part, first, second)
 
 -- how many there are before them
 pub pair-length : (n : ℕ) → 100 ≤ n → n < 2 ^ 64 → length (decimal n) ≡ length (decimal (n / 100)) + 2
 pair-length n l h = rw (decimal-pair n l h) (length-append (decimal (n / 100)) (twoDigits (n % 100)))
 
 pub four-length : (n : ℕ) → 10000 ≤ n → n < 2 ^ 64 → length (decimal n) ≡ length (decimal (n / 10000)) + 4
-four-length n l h = rw (decimal-four n l h) (length-append (decimal (n / 10000)) (fourDigits (n % 10000)))
+four-length n l h =
+    let part : n / 100 / 100 ≡ n / 10000 = omega arith in
+    pair-length n (omega arith) h ∙ rw (pair-length (n / 100) (omega arith) (omega arith), part) (omega arith)
 
 -- one byte
 pub put-byte : (zs : List ℕ) (at b r : ℕ) → at < length zs → r ≡ at + 1 → Put zs at (b ∷ []) r (set zs at b)
