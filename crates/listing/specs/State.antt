@@ -12,12 +12,14 @@ use Rattle.message_recording.specs.declared.line.Line.the-variants as line
 use Rattle.listing.specs.declared.State.{State}
 use Rattle.listing.specs.Text.{Put, textOf}
 
--- what is read and not listed lies in the buffer, which has room for the largest message and more, and what is to be written in the output
+-- what is read and not listed lies in the buffer, which has room for the largest message and more, and what is to be written in the output,
+-- which has room for a line
 pub record Within (buf out : List ℕ) (st : State) : Type 0 where
   pub ordered : st .from ≤ st .to
   pub inside : st .to ≤ length buf
   pub large : 65536 ≤ length buf
   pub fits : st .used ≤ length out
+  pub room : 64 ≤ length out
 
 -- the verdicts that lines give: the recording is whole; a message of it was refused
 abbrev pub wholeVerdict : ℕ
@@ -55,3 +57,7 @@ pub record Lines (buf before : List ℕ) (st r : State) (out : List ℕ) : Type 
   pub text : List ℕ
   pub shown : Shown buf st text r
   pub put : Put before (st .used) text (r .used) out
+
+-- all lines are shown for now: where it goes on and there is room for one more line, the bytes that are not listed yet decide none
+abbrev pub AllShown : List ℕ → List ℕ → State → Type 0
+AllShown buf out st = st .going ≡ true → st .used + 64 ≤ length out → decided (st .ended) (unlisted buf st) ≡ false

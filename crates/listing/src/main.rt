@@ -9,7 +9,7 @@ ghost use Prim.Native.Nat.{_+_, _-_, _≤_, _<_};
 ghost use mathlib.Core.Logic.{_⊎_};
 ghost use lib.ListN.{length, take, drop};
 ghost use Rattle.message_recording.specs.Line.{lineOf};
-ghost use Rattle.listing.specs.State.{Within, Lines, decided, stateAfter};
+ghost use Rattle.listing.specs.State.{Within, Lines, AllShown, decided, stateAfter};
 ghost use Rattle.listing.specs.Text.{Put, textOf};
 use libc::STDERR_FILENO;
 use libc::STDIN_FILENO;
@@ -110,6 +110,7 @@ fn show_lines(buf: &[u8], out: &mut [u8], state: State) -> State
     requires { ⌜ Within (now buf) (now out) state ⌝ }
     ensures { λ r. ⌜ Within (now (buf .entry)) (now (out .exit)) r ⌝ }
     ensures lines { λ r. ⌜ Lines (now (buf .entry)) (now (out .entry)) state r (now (out .exit)) ⌝ }
+    ensures all { λ r. ⌜ AllShown (now (buf .entry)) (now (out .exit)) r ⌝ }
 {
     let mut state = state;
     while state.going {
@@ -154,23 +155,18 @@ fn write_lines(out: &[u8], state: State) -> State
     state
 }
 
-// The next line; where its bytes are not all there, one read. The lines are written before they leave no room for the next, and before a
-// read, which may have to wait for more of a pipe.
+// Lines as far as they are decided, and the lines are written: before they leave no room for the next, and before a read, which may have to
+// wait for more of a pipe. Where there are none, one read.
 fn step(fd: i32, path: &[u8], buf: &mut [u8], out: &mut [u8], state: State) -> State
     requires { ⌜ Within (now buf) (now out) state ⌝ }
     ensures { λ r. ⌜ Within (now (buf .exit)) (now (out .exit)) r ⌝ }
 {
-    if out.len() - state.used < 64 {
-        return write_lines(out, state);
-    }
-    let from = state.from;
-    let to = state.to;
-    let rest = &buf[from..to];
-    if is_decided(rest, state.ended) {
-        return show_lines(buf, out, state);
-    }
+    let state = show_lines(buf, out, state);
     if state.used > 0 {
         return write_lines(out, state);
+    }
+    if !state.going {
+        return state;
     }
     read_more(fd, path, buf, state)
 }
@@ -179,6 +175,7 @@ fn step(fd: i32, path: &[u8], buf: &mut [u8], out: &mut [u8], state: State) -> S
 // down, from a number that no run uses up.
 fn list(fd: i32, path: &[u8], buf: &mut [u8], out: &mut [u8]) -> u8
     requires { ⌜ 65536 ≤ length (now buf) ⌝ }
+    requires { ⌜ 64 ≤ length (now out) ⌝ }
 {
     let mut state = State {
         from: 0,

@@ -12,14 +12,18 @@ use Rattle.message_recording.specs.declared.line.Line.{Line}
 use Rattle.message_recording.specs.declared.line.Line.the-variants as line
 use Rattle.message_recording.specs.Cut.{neededOf}
 use Rattle.message_recording.specs.Line.{lineOf}
+use Rattle.message_reader.specs.Theorems.{Bytes}
+use Rattle.message_recording.specs.Theorems.{BoundedNeed}
+use Rattle.message_recording.proofs.Laws.Line.{bounded-need}
 use Rattle.message_recording.proofs.Laws.Listing.{message-size}
 use Rattle.listing.specs.declared.State.{State}
 use Rattle.listing.specs.State.{Within, stateAfter, decided, unlisted, Shown, none, one, Lines}
 use Rattle.listing.specs.Text.{textOf, Put}
+use Rattle.listing.proofs.Laws.Buffer.{part-bytes}
 use Rattle.listing.proofs.Laws.Text.{put-then}
 
 -- bytes that decide no line are fewer than it needs
-pub undecided : (ended : Bool) (s : List ℕ) → decided ended s ≡ false → length s < neededOf s
+undecided : (ended : Bool) (s : List ℕ) → decided ended s ≡ false → length s < neededOf s
 undecided true s e = not-both true refl e
 undecided false s e = leb-false (neededOf s) (length s) e
 
@@ -55,6 +59,16 @@ unlisted-length buf out st w =
     let d = length-drop (st .from) buf in
     let t = length-take-le (st .to - st .from) (drop (st .from) buf) (omega (arith, w .inside)) in
     omega (arith, w .ordered)
+
+-- where they decide no line, the buffer has room for more
+pub undecided-room
+    : (buf out : List ℕ) (st : State) → Within buf out st → Bytes buf → decided (st .ended) (unlisted buf st) ≡ false
+    → st .to < st .from + length buf
+unfolding BoundedNeed
+undecided-room buf out st w b e =
+    let few = undecided (st .ended) (unlisted buf st) e in
+    let most = bounded-need (unlisted buf st) (part-bytes buf (st .from) (st .to - st .from) b) in
+    omega (arith, unlisted-length buf out st w, w .large)
 
 pub line-less
     : (buf out : List ℕ) (st r : State) → Within buf out st → st .going ≡ true → r ≡ stateAfter st (lineOf (unlisted buf st)) (r .used)
