@@ -1,6 +1,5 @@
 -- What is read and not listed lies in the buffer; the turns left are the measure. Assumes nothing.
-use mathlib.Core.Path.{_≡_, refl}
-use native.Mathlib.Omega.{arith}
+use mathlib.Core.Path.{_≡_}
 use lib.ListN.{length}
 use Rattle.listing.specs.State.{Within}
 use borrow.Author.Needs.{needs}
