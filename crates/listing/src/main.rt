@@ -155,8 +155,8 @@ fn write_lines(out: &[u8], state: State) -> State
     state
 }
 
-// Lines as far as they are decided, and the lines are written: before they leave no room for the next, and before a read, which may have to
-// wait for more of a pipe. Where there are none, one read.
+// Puts the lines that are decided, and writes them: before they leave no room for the next, and before a read, which may have to wait for
+// more of a pipe. Where there are none, and it goes on, reads once.
 fn step(fd: i32, path: &[u8], buf: &mut [u8], out: &mut [u8], state: State) -> State
     requires { ⌜ Within (now buf) (now out) state ⌝ }
     ensures { λ r. ⌜ Within (now (buf .exit)) (now (out .exit)) r ⌝ }

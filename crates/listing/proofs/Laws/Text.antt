@@ -24,6 +24,11 @@ pub decimal-length : (n : ℕ) → length (decimal n) ≤ 20
 unfolding decimal
 decimal-length n = decimal-to-length 20 n
 
+-- so a number leaves the rest of 20 bytes
+pub number-room
+    : {before out : List ℕ} {at r : ℕ} (n : ℕ) → Put before at (decimal n) r out → Put before at (decimal n) r out × (r ≤ at + 20)
+number-room n p = let l = decimal-length n in (p, omega (arith, p .place))
+
 -- one text after the other
 pub put-then
     : {before mid out a b : List ℕ} {at r q : ℕ} → Put before at a r mid → Put mid r b q out → Put before at (a ++ b) q out
