@@ -1,10 +1,11 @@
 -- Parts of the buffer. Assumes nothing.
-use Prim.Native.Nat.{ℕ, _≤_}
+use Prim.Native.Nat.{ℕ, _-_, _≤_}
 use mathlib.Core.Path.{_≡_, _∙_}
-use mathlib.Core.List.{List, _++_}
+use mathlib.Core.List.{List}
 use mathlib.Core.Logic.{⊎-elim}
 use native.Mathlib.Omega.{arith}
 use borrow.Author.Tests.{ltb-true, ltb-false}
+use borrow.Rule.Slice.PartMut.{putMid}
 use lib.Dec.{ltb}
 use lib.ListN.{length, take, drop, length-take, List·getD-eq-default}
 use lib.Seq.{getD-take, getD-drop, take-at, length-take-le}
@@ -22,6 +23,8 @@ part-bytes s from n b i =
     rw (List·getD-eq-default (take n (drop from s)) 0 short) (omega arith))
     (either (ltb i n))
 
--- a front that is kept, whatever follows it
-pub front-kept : (at k : ℕ) (xs ys t : List ℕ) → at ≡ k → at ≤ length xs → take at xs ≡ take at ys → take k (take at xs ++ t) ≡ take k ys
-front-kept at k xs ys t e h same = rw (← e) (take-at (take at xs) t at (length-take-le at xs h) ∙ same)
+-- what is put after the front leaves it
+pub front-kept
+    : (ds : List ℕ) (at k : ℕ) (xs ys : List ℕ) → at ≡ k → at ≤ length xs → take at xs ≡ take at ys
+    → take k (putMid at (length xs - at) xs ds) ≡ take k ys
+front-kept ds at k xs ys e h same = rw (← e) (take-at (take at xs) _ at (length-take-le at xs h) ∙ same)

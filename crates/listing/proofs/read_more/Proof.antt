@@ -19,7 +19,7 @@ read-more-spec =
     (λ c. search needs)
     (λ c.
     let m = c .before .before .before .before .before .before .before .before .move-to-front .ensures in
-    ((omega arith, omega arith, refl, refl), front-kept _ _ _ _ _ (m .0) (omega arith) (m .1)))
+    ((omega arith, omega arith, refl, refl), front-kept (c .before .before .before .before .read .last .1 .0) _ _ _ _ (m .0) (omega arith) (m .1)))
     (λ c. search needs)
     (λ c. search needs)
     (λ c. search needs)
@@ -28,4 +28,4 @@ read-more-spec =
     (λ c. search needs)
     (λ c.
     let m = c .before .before .before .before .before .before .before .before .before .before .move-to-front .ensures in
-    ((omega arith, omega arith, refl, refl), front-kept _ _ _ _ _ (m .0) (omega arith) (m .1))))
+    ((omega arith, omega arith, refl, refl), front-kept (c .before .before .before .before .before .before .read .last .1 .0) _ _ _ _ (m .0) (omega arith) (m .1))))
