@@ -26,12 +26,6 @@ Inv-loop buf₀ from to k₀ buf k = (k ≤ to - from) × (length buf ≡ length
 abbrev μ-loop : tie.MeasureT-loop
 μ-loop buf₀ from to k₀ buf k = to - from - k
 
-loop-again : tie.Need-loop-again Inv-loop μ-loop
-loop-again c =
-    let l = c .before .before .loop in
-    let from = c .before .before .before .before .args .from in
-    (omega arith, simp length-set (l .inv .1), moved (l .buf) from (l .k) (omega arith) ∙ l .inv .2)
-
 pub move-to-front-spec : {M : Type 1} → statement M
 move-to-front-spec =
     tie.close
@@ -46,7 +40,10 @@ move-to-front-spec =
     (λ c. omega arith)
     (λ c. omega arith)
     (λ c. omega arith)
-    loop-again
+    (λ c.
+    let l = c .before .before .loop in
+    let from = c .before .before .before .before .args .from in
+    (omega arith, simp length-set (l .inv .1), moved (l .buf) from (l .k) (omega arith) ∙ l .inv .2))
     (λ c. omega arith)
     (λ c.
     let l = c .before .loop in
