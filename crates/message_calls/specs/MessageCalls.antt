@@ -62,15 +62,15 @@ messageOutput s xs out = cond (ltb (length xs) 64) out (output s (messageIn xs) 
 
 -- ---- What a record and the bytes that it was read from say
 
--- a number, or 10 where the record is short
-unfoldable pub numberAnswer : ℕ → List ℕ → Number
-numberAnswer n xs = cond (ltb (length xs) 64) (record { status = numberOf status.NoRoom; value = 0 }) (record { status = 0; value = n })
+-- a number, or 10 where the record's lent bytes are too few
+unfoldable pub numberAnswer : ℕ → ℕ → Number
+numberAnswer lent n = cond (ltb lent 64) (record { status = numberOf status.NoRoom; value = 0 }) (record { status = 0; value = n })
 
 abbrev pub portAnswer : List ℕ → List ℕ → Number
-portAnswer s xs = numberAnswer (portOf s (messageIn xs)) xs
+portAnswer s xs = numberAnswer (length xs) (portOf s (messageIn xs))
 
 abbrev pub optionsAnswer : List ℕ → List ℕ → Number
-optionsAnswer s xs = numberAnswer (optionsOf s (messageIn xs)) xs
+optionsAnswer s xs = numberAnswer (length xs) (optionsOf s (messageIn xs))
 
 abbrev pub noAnswer : Yes
 noAnswer = record { status = numberOf status.NoRoom; yes = false }

@@ -1,7 +1,7 @@
 // The calls of connection messages over lent records. Crate ashlarsilk exports each, and says there in words what a host gets.
 ghost use mathlib.Core.Path.{_≡_};
-ghost use Rattle.message_calls.specs.MessageCalls.{readAnswer, readRecord, messageWritten, messageOutput, portAnswer, optionsAnswer};
-ghost use Rattle.message_calls.specs.MessageCalls.{sourceAnswer, sourceLent};
+ghost use Rattle.message_calls.specs.MessageCalls.{readAnswer, readRecord, messageWritten, messageOutput, numberAnswer};
+ghost use Rattle.message_calls.specs.MessageCalls.{portAnswer, optionsAnswer, sourceAnswer, sourceLent};
 use host_answers::Answer;
 use host_answers::Number;
 use host_answers::Written;
@@ -56,36 +56,33 @@ pub fn write(bytes: &[u8], record: &[u8], out: &mut [u8]) -> Written
     }
 }
 
-// The RTSP port of a record, whose values stand in the lent bytes.
-pub fn rtsp_port(bytes: &[u8], record: &[u8]) -> Number
-    ensures { λ r. ⌜ r ≡ portAnswer (now (bytes .entry)) (now («record» .entry)) ⌝ }
+// A number that a record gives, of which so many bytes are lent.
+fn number_answer(lent: usize, value: u16) -> Number
+    ensures { λ r. ⌜ r ≡ numberAnswer lent value ⌝ }
 {
-    if record.len() < message_layout::LENGTH {
+    if lent < message_layout::LENGTH {
         return Number {
             status: status::number(Status::NoRoom),
             value: 0,
         };
     }
-    Number {
-        status: 0,
-        value: accessors::rtsp_port(bytes, message_layout::read(record)),
-    }
+    Number { status: 0, value }
+}
+
+// The RTSP port of a record, whose values stand in the lent bytes.
+pub fn rtsp_port(bytes: &[u8], record: &[u8]) -> Number
+    ensures { λ r. ⌜ r ≡ portAnswer (now (bytes .entry)) (now («record» .entry)) ⌝ }
+{
+    let port = accessors::rtsp_port(bytes, message_layout::read(record));
+    number_answer(record.len(), port)
 }
 
 // The option byte of a record, the first of the Security Options.
 pub fn security_options(bytes: &[u8], record: &[u8]) -> Number
     ensures { λ r. ⌜ r ≡ optionsAnswer (now (bytes .entry)) (now («record» .entry)) ⌝ }
 {
-    if record.len() < message_layout::LENGTH {
-        return Number {
-            status: status::number(Status::NoRoom),
-            value: 0,
-        };
-    }
-    Number {
-        status: 0,
-        value: accessors::security_options(bytes, message_layout::read(record)) as u16,
-    }
+    let options = accessors::security_options(bytes, message_layout::read(record));
+    number_answer(record.len(), options as u16)
 }
 
 // Whether a record has a Source ID; if so, it is copied to the first 16 bytes of `id`.

@@ -16,6 +16,7 @@ use Rattle.message_rules.specs.Rules.{roleOf, foreign, needed, lengthOk, knownC
 use Rattle.message_rules.specs.Record.{fieldOf, withField, emptyOf}
 use Rattle.message_reader.specs.declared.Answer.{Answer}
 use Rattle.message_reader.specs.declared.Answer.the-variants as answer
+use Rattle.message_reader.specs.declared.StatusAt.{StatusAt}
 use Rattle.message_reader.specs.declared.header.Size.{Size}
 use Rattle.message_reader.specs.declared.header.Size.the-variants as size
 use Rattle.message_reader.specs.declared.tlv.Tlv.{Tlv}
@@ -111,3 +112,8 @@ tlvsFrom (suc k) s at m = cond (ltb at (length s)) (goOn (tlvsFrom k s) at m (tl
 unfoldable pub readMessage : List ℕ → Answer
 readMessage s =
     cond (accepted (headerStatus s)) (tlvsFrom (length s) s 4 (emptyOf (commandIn s))) (answer.Refused (headerStatus s) 0)
+
+-- the status of an answer, and its place
+abbrev pub statusAt : Answer → StatusAt
+statusAt (answer.Accepted m) = record { status = status.Accepted; place = 0 }
+statusAt (answer.Refused st place) = record { status = st; place = place }

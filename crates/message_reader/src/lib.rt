@@ -5,7 +5,7 @@ mod tlv;
 pub mod walk;
 
 ghost use mathlib.Core.Path.{_≡_};
-ghost use Rattle.message_reader.specs.Reading.{readMessage};
+ghost use Rattle.message_reader.specs.Reading.{statusAt, readMessage};
 use message_rules::record::Message;
 use wire::status;
 use wire::status::Status;
@@ -14,6 +14,25 @@ use wire::status::Status;
 pub enum Answer {
     Accepted(Message),
     Refused { status: Status, place: usize },
+}
+
+// The status of an answer, and the place that goes with it.
+pub struct StatusAt {
+    pub status: Status,
+    pub place: usize,
+}
+
+// Those of a refusal; an accepted message has place 0.
+pub fn status_at(answer: Answer) -> StatusAt
+    ensures { λ r. ⌜ r ≡ statusAt answer ⌝ }
+{
+    match answer {
+        Answer::Accepted(_) => StatusAt {
+            status: Status::Accepted,
+            place: 0,
+        },
+        Answer::Refused { status, place } => StatusAt { status, place },
+    }
 }
 
 // Reads a message, which is all of the lent bytes.

@@ -4,19 +4,12 @@ use mathlib.Core.List.{List}
 use mathlib.Core.Bool.{cond}
 use lib.ListN.{length, take}
 use lib.Dec.{eqb}
-use Rattle.wire.specs.declared.status.Status.{Status}
-use Rattle.wire.specs.declared.status.Status.the-variants as status
 use Rattle.message_reader.specs.declared.Answer.{Answer}
 use Rattle.message_reader.specs.declared.Answer.the-variants as answer
 use Rattle.message_reader.specs.Reading.{readMessage}
 use Rattle.message_recording.specs.Cut.{neededOf}
 use Rattle.message_recording.specs.declared.line.Line.{Line}
 use Rattle.message_recording.specs.declared.line.Line.the-variants as line
-
--- the status of the reader's answer
-abbrev pub statusOf : Answer → Status
-statusOf (answer.Accepted m) = status.Accepted
-statusOf (answer.Refused st place) = st
 
 -- what is shown of a message of n bytes: its command and size, or its refusal, whose place inside the message is not shown
 abbrev pub shown : ℕ → Answer → Line

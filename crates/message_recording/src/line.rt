@@ -1,6 +1,6 @@
 // A line of the listing.
 ghost use mathlib.Core.Path.{_≡_};
-ghost use Rattle.message_recording.specs.Line.{statusOf, lineOf};
+ghost use Rattle.message_recording.specs.Line.{lineOf};
 use crate::cut::needed;
 use message_reader::Answer;
 use wire::status::Status;
@@ -10,16 +10,6 @@ pub enum Line {
     Message { command: u8, size: usize },
     Refused { status: Status },
     End,
-}
-
-// The status of the reader's answer.
-fn status_of(answer: Answer) -> Status
-    ensures { λ r. ⌜ r ≡ statusOf answer ⌝ }
-{
-    match answer {
-        Answer::Accepted(_) => Status::Accepted,
-        Answer::Refused { status, place: _ } => status,
-    }
 }
 
 // The line of the place where `bytes` begin. Bytes after the first message are not looked at.
@@ -37,9 +27,9 @@ pub fn first_line(bytes: &[u8]) -> Line
     }
     let answer = message_reader::read(&bytes[..size]);
     let Answer::Accepted(message) = answer else {
-        return Line::Refused {
-            status: status_of(answer),
-        };
+        let refusal = message_reader::status_at(answer);
+        let status = refusal.status;
+        return Line::Refused { status };
     };
     Line::Message {
         command: message.command,

@@ -1,7 +1,6 @@
 -- A step by the bytes of one message (01, "Sink session"; "A later step goes on only when the reader accepted"). Assumes nothing.
 use Prim.Native.Nat.{ℕ}
 use mathlib.Core.List.{List}
-use Rattle.wire.specs.declared.status.Status.the-variants as status
 use Rattle.message_reader.specs.declared.Answer.{Answer}
 use Rattle.message_reader.specs.declared.Answer.the-variants as answer
 use Rattle.message_reader.specs.Reading.{readMessage}
@@ -10,12 +9,8 @@ use Rattle.session_table.specs.declared.record.Session.{Session}
 use Rattle.session_step.specs.declared.step.Stepped.{Stepped}
 use Rattle.session_step.specs.Step.{refused, stepOf}
 
--- the reader's refusal is passed on with its place, and the session stays
-abbrev pub unread : Answer → Session → Stepped
-unread (answer.Accepted m) s = refused status.Accepted 0 s
-unread (answer.Refused st place) s = refused st place s
-
--- an accepted message is stepped with: its command, its Source ID and its option byte, which stand in the bytes
+-- an accepted message is stepped with: its command, its Source ID and its option byte, which stand in the bytes; the reader's refusal is passed
+-- on with its place, and the session stays
 abbrev pub afterRead : List ℕ → Session → Answer → Stepped
 afterRead bytes s (answer.Accepted m) = stepOf s (m .command) (sourceOf bytes m) (optionsOf bytes m)
 afterRead bytes s (answer.Refused st place) = refused st place s

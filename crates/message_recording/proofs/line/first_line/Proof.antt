@@ -34,8 +34,8 @@ enum-known-answer c = search needs
 enum-told : tie.Need-enum-told
 enum-told c = search needs
 
-status-of-requires : tie.Need-status-of-requires
-status-of-requires c κs = search needs
+status-at-requires : tie.Need-status-at-requires
+status-at-requires c κs = search needs
 
 returns-3 : tie.Need-returns-3
 returns-3 c =
@@ -46,7 +46,7 @@ returns-3 c =
       line-of s (positive _ (n .before .if1 .left)),
       ← n .needed .ensures,
       ← r .read .ensures,
-      c .status-of .ensures,
+      c .status-at .ensures,
       c .before .enum-told .given .1,
     )
 
@@ -68,6 +68,6 @@ first-line-spec =
     read-requires
     enum-known-answer
     enum-told
-    status-of-requires
+    status-at-requires
     returns-3
     returns-4)

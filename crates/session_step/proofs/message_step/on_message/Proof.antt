@@ -6,10 +6,12 @@ use borrow.Author.Needs.{needs}
 use denote.Ref.{now}
 use Rattle.message_reader.specs.declared.Answer.{Answer}
 use Rattle.message_reader.specs.declared.Answer.the-variants as answer
-use Rattle.message_reader.specs.Reading.{readMessage}
+use Rattle.message_reader.specs.declared.StatusAt.{StatusAt}
+use Rattle.message_reader.specs.Reading.{statusAt, readMessage}
 use Rattle.session_table.specs.declared.record.Session.{Session}
 use Rattle.session_step.specs.declared.step.Stepped.{Stepped}
-use Rattle.session_step.specs.Message.{unread, afterRead, onMessage}
+use Rattle.session_step.specs.Step.{refused}
+use Rattle.session_step.specs.Message.{afterRead, onMessage}
 use Rattle.session_step.proofs.message_step.on_message.Statement.{statement}
 use Rattle.session_step.proofs.message_step.on_message.Tie as tie
 
@@ -20,33 +22,12 @@ read-as
 unfolding onMessage
 read-as s bytes r b e f p = p ∙ ap (λ (x : Answer). afterRead bytes s x) (sym f ∙ e)
 
-read-requires : tie.Need-read-requires
-read-requires c κs = search needs
-
-enum-known-answer : tie.Need-enum-known-answer
-enum-known-answer c = search needs
-
-enum-told : tie.Need-enum-told
-enum-told c = search needs
-
-not-read-requires : tie.Need-not-read-requires
-not-read-requires c κs = search needs
-
 returns : tie.Need-returns
 returns c =
-    let t = c .before in
+    let t = c .before .before in
     let a = t .before .before .before .before .args in
-    read-as (a .session) (now (a .bytes)) (c .not-read .result) _ (t .before .before .read .ensures) (t .enum-told .given .1)
-    (c .not-read .ensures ∙ ap (λ (x : Answer). unread x (a .session)) (t .enum-told .given .1))
-
-source-id-requires : tie.Need-source-id-requires
-source-id-requires c κs = search needs
-
-security-options-requires : tie.Need-security-options-requires
-security-options-requires c κs = search needs
-
-step-requires : tie.Need-step-requires
-step-requires c κs = search needs
+    read-as (a .session) (now (a .bytes)) (c .refuse .result) _ (t .before .before .read .ensures) (t .enum-told .given .1)
+    (c .refuse .ensures ∙ ap (λ (x : StatusAt). refused (x .status) (x .place) (a .session)) (c .before .status-at .ensures ∙ ap statusAt (t .enum-told .given .1)))
 
 returns-2 : tie.Need-returns-2
 returns-2 c =
@@ -59,12 +40,13 @@ pub on-message-spec : {M : Type 1} → statement M
 on-message-spec =
     tie.close
     (tie.spec
-    read-requires
-    enum-known-answer
-    enum-told
-    not-read-requires
+    (λ c κs. search needs)
+    (λ c. search needs)
+    (λ c. search needs)
+    (λ c κs. search needs)
+    (λ c κs. search needs)
     returns
-    source-id-requires
-    security-options-requires
-    step-requires
+    (λ c κs. search needs)
+    (λ c κs. search needs)
+    (λ c κs. search needs)
     returns-2)
