@@ -58,13 +58,11 @@ pub fn source_id(bytes: &[u8], message: Message) -> SourceId
     let source = message.source_id;
     let at = source.at as usize;
     if source.present {
-        if 16 <= bytes.len() {
-            if at <= bytes.len() - 16 {
-                return SourceId {
-                    present: true,
-                    bytes: sixteen(bytes, at),
-                };
-            }
+        if at + 16 <= bytes.len() {
+            return SourceId {
+                present: true,
+                bytes: sixteen(bytes, at),
+            };
         }
     }
     SourceId {

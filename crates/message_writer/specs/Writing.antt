@@ -1,5 +1,5 @@
 -- What writing a record gives (01: "TLVs come .. by rising type when written"; "Any writer: 18, then 10"). Assumes nothing.
-use Prim.Native.Nat.{ℕ, zero, suc, _-_}
+use Prim.Native.Nat.{ℕ, zero, suc, _+_}
 use mathlib.Core.List.{List, [], _∷_, _++_}
 use mathlib.Core.Bool.{Bool, cond, not, _&&_}
 use lib.ListN.{length, drop}
@@ -20,7 +20,7 @@ unfoldable pub fieldOk : ℕ → Message → ℕ → Bool
 fieldOk n m t =
     cond (fieldOf m t .present)
     (not (eqb (roleOf (m .command) t) foreign)
-    && (leb (fieldOf m t .at) n && (leb (fieldOf m t .len) (n - fieldOf m t .at) && lengthOk t (fieldOf m t .len))))
+    && (leb (fieldOf m t .at + fieldOf m t .len) n && lengthOk t (fieldOf m t .len)))
     (not (eqb (roleOf (m .command) t) needed))
 
 -- 18 is not due: there is such a command, its TLVs are those of the command, each can be written, and Size holds the number of bytes

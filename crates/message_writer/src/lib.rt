@@ -36,10 +36,7 @@ fn field_ok(n: usize, message: Message, kind: u8) -> bool
     }
     let at = value.at as usize;
     let len = value.len as usize;
-    if n < at {
-        return false;
-    }
-    if n - at < len {
+    if n < at + len {
         return false;
     }
     rules::length_ok(kind, len)

@@ -1,6 +1,6 @@
 -- Where the types rise, each TLV that is taken adds its bytes at the end of what is written; where the bytes are the same, the record is that
 -- of what is written, whose types rise. Assumes nothing.
-use Prim.Native.Nat.{ℕ, suc, _+_, _-_, _≤_, _<_}
+use Prim.Native.Nat.{ℕ, suc, _+_, _≤_, _<_}
 use mathlib.Core.Path.{_≡_, refl, sym, ap, _∙_, subst}
 use mathlib.Core.Bool.{true, false}
 use mathlib.Core.List.{List, _++_, append-nil, append-assoc}
@@ -47,8 +47,7 @@ ok-field s m k t =
     simp (
       p,
       ne-eqb r foreign (q .expected),
-      le-leb (f .at) (length s) (omega (arith, q .within)),
-      le-leb (f .len) (length s - f .at) (omega (arith, q .within)),
+      le-leb (f .at + f .len) (length s) (q .within),
       q .fitting,
     ))
     (λ (p : f .present ≡ false). simp (p, ne-eqb r needed (λ e. not-both (f .present) (k .complete t e) p)))

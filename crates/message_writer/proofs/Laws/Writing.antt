@@ -1,5 +1,5 @@
 -- What is said of the fields of the types below t, by one type more; and the writer's answers. Assumes nothing.
-use Prim.Native.Nat.{ℕ, zero, suc, _+_, _-_, _%_, _<_, _≤_}
+use Prim.Native.Nat.{ℕ, zero, suc, _+_, _%_, _<_, _≤_}
 use mathlib.Core.Path.{_≡_, refl, ap, _∙_}
 use mathlib.Core.Bool.{Bool, true, false, not, cond}
 use mathlib.Core.List.{List, [], _∷_, _++_, append-nil}
@@ -43,23 +43,22 @@ splice-front ds xs = let e : 0 + length ds ≡ length ds = omega arith in rw e
 module _ (n : ℕ) (m : Message) (t : ℕ) (ok : fieldOk n m t ≡ true) where
   module _ (p : fieldOf m t .present ≡ true) where
     tests
-        : (not (eqb (roleOf (m .command) t) foreign) ≡ true) × (leb (fieldOf m t .at) n ≡ true)
-        × (leb (fieldOf m t .len) (n - fieldOf m t .at) ≡ true) × (lengthOk t (fieldOf m t .len) ≡ true)
+        : (not (eqb (roleOf (m .command) t) foreign) ≡ true) × (leb (fieldOf m t .at + fieldOf m t .len) n ≡ true)
+        × (lengthOk t (fieldOf m t .len) ≡ true)
     unfolding fieldOk
     tests =
         let a = both _ _ (rw p at ok) in
         let b = both _ _ (a .1) in
-        let d = both _ _ (b .1) in
-        (a .0, b .0, d .0, d .1)
+        (a .0, b .0, b .1)
 
     pub ok-expected : roleOf (m .command) t ≡ foreign → ⊥
     ok-expected = eqb-false (roleOf (m .command) t) foreign (not-true (eqb (roleOf (m .command) t) foreign) (tests .0))
 
     pub ok-within : fieldOf m t .at + fieldOf m t .len ≤ n
-    ok-within = omega (arith, leb-true (fieldOf m t .at) n (tests .1), leb-true (fieldOf m t .len) (n - fieldOf m t .at) (tests .2))
+    ok-within = leb-true (fieldOf m t .at + fieldOf m t .len) n (tests .1)
 
     pub ok-fitting : lengthOk t (fieldOf m t .len) ≡ true
-    ok-fitting = tests .3
+    ok-fitting = tests .2
 
     pub ok-small : fieldOf m t .len ≤ 65535
     ok-small = length-held t (fieldOf m t .len) ok-fitting

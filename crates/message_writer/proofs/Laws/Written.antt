@@ -1,5 +1,5 @@
 -- A record can be written exactly where none of the reasons against it is given: each test of the definition is one of them. Assumes nothing.
-use Prim.Native.Nat.{ℕ, _+_, _-_, _<_}
+use Prim.Native.Nat.{ℕ, _+_, _<_}
 use mathlib.Core.Path.{_≡_, refl, sym, ap, _∙_}
 use mathlib.Core.Bool.{Bool, true, false, not, _&&_}
 use mathlib.Core.List.{List, _++_}
@@ -40,12 +40,9 @@ module _ (n : ℕ) (m : Message) where
       (λ p e.
       ⊎-elim (λ a. given.foreign-tlv t p (eqb-true r foreign (not-false (eqb r foreign) a)))
       (λ b.
-      ⊎-elim (λ a. let l = leb-false (f .at) n a in given.outside t p (omega arith))
-      (λ d.
-      ⊎-elim (λ a. let l = leb-false (f .len) (n - f .at) a in given.outside t p (omega arith)) (λ a. given.value-length t p a)
-      (fails (leb (f .len) (n - f .at)) (lengthOk t (f .len)) d))
-      (fails (leb (f .at) n) (leb (f .len) (n - f .at) && lengthOk t (f .len)) b))
-      (fails (not (eqb r foreign)) (leb (f .at) n && (leb (f .len) (n - f .at) && lengthOk t (f .len))) e))
+      ⊎-elim (λ a. given.outside t p (leb-false (f .at + f .len) n a)) (λ a. given.value-length t p a)
+      (fails (leb (f .at + f .len) n) (lengthOk t (f .len)) b))
+      (fails (not (eqb r foreign)) (leb (f .at + f .len) n && lengthOk t (f .len)) e))
       (λ p e. given.absent-tlv t p (eqb-true r needed (not-false (eqb r needed) e)))
 
   reason : writable n m ≡ false → Unwritable n m
