@@ -26,25 +26,37 @@ Inv-loop buf₀ from to k₀ buf k = (k ≤ to - from) × (length buf ≡ length
 abbrev μ-loop : tie.MeasureT-loop
 μ-loop buf₀ from to k₀ buf k = to - from - k
 
+returns : tie.Need-returns Inv-loop μ-loop
+returns c = (let e = c .if1 .taken in omega arith, rw (c .if1 .taken))
+
+loop-holds : tie.Need-loop-holds Inv-loop μ-loop
+loop-holds c = (omega arith, refl, let e : c .before .args .from + 0 ≡ c .before .args .from = omega arith in rw e)
+
+loop-again : tie.Need-loop-again Inv-loop μ-loop
+loop-again c =
+    let l = c .before .before .loop in
+    let from = c .before .before .before .before .args .from in
+    (omega arith, simp length-set (l .inv .1), moved (l .buf) from (l .k) (omega arith) ∙ l .inv .2)
+
+returns-2 : tie.Need-returns-2 Inv-loop μ-loop
+returns-2 c =
+    let l = c .before .loop in
+    (omega arith, rw (← l .inv .2) (sym (take-at (take (l .k) (l .buf)) _ (l .k) (length-take-le (l .k) (l .buf) (omega arith)))))
+
 pub move-to-front-spec : {M : Type 1} → statement M
 move-to-front-spec =
     tie.close
     (tie.spec
     Inv-loop
     μ-loop
-    (λ c. (let e = c .if1 .taken in omega arith, rw (c .if1 .taken)))
-    (λ c. (omega arith, refl, let e : c .before .args .from + 0 ≡ c .before .args .from = omega arith in rw e))
+    returns
+    loop-holds
     (λ c. omega arith)
     (λ c. omega arith)
     (λ c. omega arith)
     (λ c. omega arith)
     (λ c. omega arith)
     (λ c. omega arith)
-    (λ c.
-    let l = c .before .before .loop in
-    let from = c .before .before .before .before .args .from in
-    (omega arith, simp length-set (l .inv .1), moved (l .buf) from (l .k) (omega arith) ∙ l .inv .2))
+    loop-again
     (λ c. omega arith)
-    (λ c.
-    let l = c .before .loop in
-    (omega arith, rw (← l .inv .2) (sym (take-at (take (l .k) (l .buf)) _ (l .k) (length-take-le (l .k) (l .buf) (omega arith)))))))
+    returns-2)
