@@ -47,14 +47,6 @@ placedTo m zero = emptyOf (m .command)
 placedTo m (suc t) = cond (fieldOf m t .present) (withField (placedTo m t) t (placed m t)) (placedTo m t)
 
 module _ (m : Message) where
-  placed-there : (t : ℕ) → fieldOf m t .present ≡ true → placedTo m (suc t) ≡ withField (placedTo m t) t (placed m t)
-  unfolding placedTo
-  placed-there t p = simp p
-
-  placed-none : (t : ℕ) → fieldOf m t .present ≡ false → placedTo m (suc t) ≡ placedTo m t
-  unfolding placedTo
-  placed-none t p = simp p
-
   -- what holds of the empty record, and of a record with one more value if it holds of the record, holds of each
   each : (P : ℕ → Message → Type 0) → P 0 (emptyOf (m .command))
       → ((t : ℕ) → fieldOf m t .present ≡ true → P t (placedTo m t) → P (suc t) (withField (placedTo m t) t (placed m t)))
