@@ -2,23 +2,16 @@
 use Prim.Native.Nat.{ℕ, _+_, _^_, _≤_, _<_}
 use mathlib.Core.Path.{_≡_, sym}
 use mathlib.Core.List.{List, [], _++_, append-assoc}
-use mathlib.Core.Logic.{⊎-elim}
 use native.Mathlib.Omega.{arith}
-use borrow.Author.Tests.{ne-eqb}
 use lib.ListN.{length, length-append}
 use Rattle.wire.specs.Splice.{splice}
 use Rattle.wire.proofs.Laws.Number.{number-small}
 use Rattle.message_rules.specs.declared.record.Field.{Field}
 use Rattle.message_rules.specs.declared.record.Message.{Message}
 use Rattle.message_rules.specs.Record.{fieldOf}
-use Rattle.message_rules.specs.Rules.{roleOf, foreign}
-use Rattle.message_reader.specs.Reading.{commandIn, typeAt, valueAt}
-use Rattle.message_reader.specs.Theorems.{Reached, AcceptedExactly}
-use Rattle.message_reader.specs.Theorems as given
+use Rattle.message_reader.specs.Theorems.{AcceptedExactly}
 use Rattle.message_reader.proofs.Laws.Reading.{accepted-exactly}
-use Rattle.message_rules.proofs.Laws.Record.{field-with, field-empty}
-use Rattle.message_rules.proofs.Laws.Rules.{type-small, type-not-1}
-use Rattle.message_reader.proofs.Laws.WellFormed.{sound}
+use Rattle.message_reader.proofs.Laws.WellFormed.{each-field, sound}
 use Rattle.wire.specs.Laid.{laid}
 use Rattle.little_endian.specs.Layout.{flag}
 use Rattle.little_endian.specs.Little.{bytes, written}
@@ -117,17 +110,6 @@ message-back m xs room small held =
       field-in 55 d7 (m .«pin_reason») b8 (held 7),
     )
 
--- the values reached so far end there
-ends-before : (s : List ℕ) {at : ℕ} {m : Message} → Reached s at m → (u : ℕ) → fieldOf m u .at + fieldOf m u .len ≤ at
-ends-before s given.start u = rw (field-empty (commandIn s) u) (omega arith)
-ends-before s (given.next {at} {m} r k) u =
-    let t = typeAt s at in
-    let role = ne-eqb (roleOf (m .command) t) foreign (k .expected) in
-    ⊎-elim
-    (λ e. rw (e .1) (omega arith))
-    (λ e. rw (e .1) (let h = ends-before s r u in omega arith))
-    (field-with m t (valueAt s at) (type-small (m .command) t role) (type-not-1 (m .command) t role) u)
-
 pub accepted-back : AcceptedBack
 unfolding AcceptedExactly
 accepted-back s m xs small e room =
@@ -135,4 +117,6 @@ accepted-back s m xs small e room =
     let size : length s < 256 ^ 2 = rw (sym (a .headed .size)) (number-small 2 0 s small) in
     let command = sound s (a .reached) .command in
     message-back m xs room (omega (arith, small 3))
-    (λ t. let h = ends-before s (a .reached) t in (omega arith, omega arith))
+    (λ t.
+    let h = each-field s (λ (f : Field). f .at + f .len ≤ length s) (omega arith) (λ at n k. k .whole) (a .reached) t in
+    (omega arith, omega arith))

@@ -1,52 +1,36 @@
 -- The answer number and the values of a message determine its answer. Assumes nothing.
-use Prim.Native.Nat.{ℕ, _+_, _*_, _/_, _%_, _≤_, _<_}
+use Prim.Native.Nat.{ℕ, _+_, _*_, _/_, _%_, _<_}
 use mathlib.Core.Path.{_≡_, refl, sym, ap, _∙_}
 use mathlib.Core.List.{List}
-use mathlib.Core.Logic.{⊎-elim}
 use native.Mathlib.Omega.{arith}
-use borrow.Author.Tests.{ne-eqb}
-use lib.ListN.{length}
 use Rattle.wire.specs.declared.status.Status.{Status}
 use Rattle.wire.specs.Status.{numberOf, statusFor}
 use Rattle.wire.proofs.Laws.Status.{status-back, number-at-most}
+use Rattle.message_rules.specs.declared.record.Field.{Field}
 use Rattle.message_rules.specs.declared.record.Message.{Message}
-use Rattle.message_rules.specs.Rules.{roleOf, foreign}
 use Rattle.message_rules.specs.Record.{absent, fieldOf}
-use Rattle.message_rules.proofs.Laws.Rules.{type-small, type-not-1}
-use Rattle.message_rules.proofs.Laws.Record.{field-with, field-empty}
 use Rattle.message_reader.specs.declared.Answer.{Answer}
 use Rattle.message_reader.specs.declared.Answer.the-variants as answer
-use Rattle.message_reader.specs.Reading.{commandIn, typeAt, lengthAt, valueAt, readMessage}
-use Rattle.message_reader.specs.Theorems.{Bytes, Reached, RefusedExactly, AcceptedExactly, AcceptedWellFormed}
-use Rattle.message_reader.specs.Theorems as given
+use Rattle.message_reader.specs.Reading.{lengthAt, readMessage}
+use Rattle.message_reader.specs.Theorems.{Bytes, RefusedExactly, AcceptedExactly, AcceptedWellFormed}
 use Rattle.message_reader.specs.Values.{high, fieldFrom, messageFrom, valueNumber, valuesOf, valuesAfter, answerNumber}
 use Rattle.message_reader.proofs.Laws.Reading.{value, headed-short, refused-exactly, accepted-exactly, refusal-number}
 use Rattle.message_reader.proofs.Laws.Values.{value-from}
-use Rattle.message_reader.proofs.Laws.WellFormed.{accepted-well-formed}
+use Rattle.message_reader.proofs.Laws.WellFormed.{each-field, accepted-well-formed}
 
--- each field of m is that of its number
-abbrev Kept : Message → Type 0
-Kept m = (u : ℕ) → fieldFrom (valueNumber (fieldOf m u)) ≡ fieldOf m u
+-- a field is that of its number
+abbrev Kept : Field → Type 0
+Kept f = fieldFrom (valueNumber f) ≡ f
 
-value-kept : (at n : ℕ) → at + 3 < high → fieldFrom (valueNumber (value at n)) ≡ value at n
+value-kept : (at n : ℕ) → at + 3 < high → Kept (value at n)
 unfolding valueNumber
 value-kept at n h = value-from at n h
 
-absent-kept : fieldFrom (valueNumber absent) ≡ absent
+absent-kept : Kept absent
 unfolding valueNumber fieldFrom
 absent-kept = refl
 
-kept : (s : List ℕ) → length s ≤ 65535 → {at : ℕ} {m : Message} → Reached s at m → Kept m
-kept s short given.start u = rw (field-empty (commandIn s) u) absent-kept
-kept s short (given.next {at} {m} r k) u =
-    let t = typeAt s at in
-    let own = ne-eqb (roleOf (m .command) t) foreign (k .expected) in
-    ⊎-elim
-    (λ e. rw (e .1) (value-kept at (lengthAt s at) (let w = k .whole in omega arith)))
-    (λ e. rw (e .1) (kept s short r u))
-    (field-with m t (valueAt s at) (type-small (m .command) t own) (type-not-1 (m .command) t own) u)
-
-kept-back : (m : Message) → Kept m → m ≡ messageFrom (m .command) (valuesOf m)
+kept-back : (m : Message) → ((u : ℕ) → Kept (fieldOf m u)) → m ≡ messageFrom (m .command) (valuesOf m)
 unfolding fieldOf messageFrom valuesOf
 kept-back m k = simp (k 0, k 2, k 3, k 4, k 5, k 6, k 7)
 
@@ -54,7 +38,9 @@ kept-back m k = simp (k 0, k 2, k 3, k 4, k 5, k 6, k 7)
 accepted-back : (s : List ℕ) (m : Message) → Bytes s → readMessage s ≡ answer.Accepted m → m ≡ messageFrom (m .command) (valuesOf m)
 unfolding AcceptedExactly
 accepted-back s m small e =
-    let a = accepted-exactly s m .0 e in kept-back m (kept s (headed-short s small (a .headed)) (a .reached))
+    let a = accepted-exactly s m .0 e in
+    let short = headed-short s small (a .headed) in
+    kept-back m (each-field s Kept absent-kept (λ at n k. value-kept at (lengthAt s at) (let w = k .whole in omega arith)) (a .reached))
 
 -- ---- the answer
 

@@ -135,7 +135,7 @@ OfAnswer s (answer.Accepted m) = Acceptance s m
 OfAnswer s (answer.Refused st place) = Refusal s st place
 
 role-needed : (c t : ℕ) → roleOf c t ≡ needed → t < 8
-role-needed c t e = type-small c t (ne-eqb (roleOf c t) foreign (λ f. omega arith))
+role-needed c t e = type-small c t (λ f. omega arith)
 
 has-none : (m : Message) (t : ℕ) → hasNeeded m t ≡ false → (roleOf (m .command) t ≡ needed) × (fieldOf m t .present ≡ false)
 unfolding hasNeeded

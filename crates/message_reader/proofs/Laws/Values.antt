@@ -126,5 +126,5 @@ module _ (c : ℕ) (values : List ℕ) (t : ℕ) (h : t < 8) (k : t ≡ 1 → �
 pub needed-found : (c : ℕ) (values : List ℕ) (t : ℕ) → roleOf c t ≡ needed → hasNeeded (messageFrom c values) t ≡ not (eqb (getD values t 0) 0)
 unfolding hasNeeded messageFrom
 needed-found c values t e =
-    let own : eqb (roleOf c t) foreign ≡ false = ne-eqb (roleOf c t) foreign (λ f. omega arith) in
+    let own : roleOf c t ≡ foreign → ⊥ = λ f. omega arith in
     simp (eq-eqb (roleOf c t) needed e) (found c values t (type-small c t own) (type-not-1 c t own))

@@ -4,12 +4,10 @@ use mathlib.Core.Path.{_≡_, sym, ap, _∙_, subst}
 use mathlib.Core.List.{List}
 use mathlib.Core.Bool.{true, false}
 use native.Mathlib.Omega.{arith}
-use borrow.Author.Tests.{ne-eqb}
 use lib.ListN.{length, set}
 use Rattle.wire.specs.declared.status.Status.{Status}
 use Rattle.wire.specs.declared.status.Status.the-variants as status
 use Rattle.message_rules.specs.declared.record.Message.{Message}
-use Rattle.message_rules.specs.Rules.{roleOf, foreign}
 use Rattle.message_rules.specs.Record.{emptyOf}
 use Rattle.message_rules.proofs.Laws.Rules.{type-small, type-not-1}
 use Rattle.message_reader.specs.declared.Answer.{Answer}
@@ -52,11 +50,10 @@ pub record Fits (s : List ℕ) (at t n : ℕ) : Type 0 where
 right-fits : (s : List ℕ) (at : ℕ) (m : Message) (t n : ℕ) → OfTlv s at m (tlv.Right t n) → Fits s at t n
 right-fits s at m t n p =
     let u = typeAt s at in
-    let own = ne-eqb (roleOf (m .command) u) foreign (p .0 .expected) in
     subst (λ (i : ℕ). Fits s at i n) (sym (p .1))
     (record {
-      small = type-small (m .command) u own;
-      not-1 = type-not-1 (m .command) u own;
+      small = type-small (m .command) u (p .0 .expected);
+      not-1 = type-not-1 (m .command) u (p .0 .expected);
       whole = (let w = p .0 .whole in let l = p .2 in omega arith);
     })
 

@@ -5,11 +5,10 @@ use mathlib.Core.Bool.{true}
 use mathlib.Core.List.{List}
 use mathlib.Core.Logic.{_⊎_, inl, inr, ⊎-elim}
 use native.Mathlib.Omega.{arith}
-use borrow.Author.Tests.{ne-eqb}
 use Rattle.message_rules.specs.declared.record.Field.{Field}
 use Rattle.message_rules.specs.declared.record.Message.{Message}
-use Rattle.message_rules.specs.Rules.{roleOf, foreign, knownCommand}
-use Rattle.message_rules.specs.Record.{fieldOf, withField, emptyOf, sizeTo}
+use Rattle.message_rules.specs.Rules.{knownCommand}
+use Rattle.message_rules.specs.Record.{absent, fieldOf, withField, emptyOf, sizeTo}
 use Rattle.message_reader.specs.Reading.{commandIn, typeAt, nextAt, valueAt}
 use Rattle.message_reader.specs.Theorems.{RightTlv, Reached, Placed, Before, AcceptedExactly, AcceptedWellFormed}
 use Rattle.message_reader.specs.Theorems as given
@@ -28,6 +27,22 @@ pub record Sound (s : List ℕ) (at : ℕ) (m : Message) : Type 0 where
       : (u v : ℕ) → (u ≡ v → ⊥) → fieldOf m u .present ≡ true → fieldOf m v .present ≡ true
       → Before (fieldOf m u) (fieldOf m v) ⊎ Before (fieldOf m v) (fieldOf m u)
 
+-- the fields of a record with the value of one right TLV more
+pub field-next
+    : (s : List ℕ) (at : ℕ) (m : Message) → RightTlv s at m → (u : ℕ)
+    → ((typeAt s at ≡ u) × (fieldOf (withField m (typeAt s at) (valueAt s at)) u ≡ valueAt s at))
+    ⊎ ((typeAt s at ≡ u → ⊥) × (fieldOf (withField m (typeAt s at) (valueAt s at)) u ≡ fieldOf m u))
+field-next s at m k =
+    field-with m (typeAt s at) (valueAt s at) (type-small (m .command) (typeAt s at) (k .expected)) (type-not-1 (m .command) (typeAt s at) (k .expected))
+
+-- what holds of an absent value, and of that of each right TLV, holds of each field
+pub each-field
+    : (s : List ℕ) (P : Field → Type 0) → P absent → ((at : ℕ) (m : Message) → RightTlv s at m → P (valueAt s at)) → {at : ℕ} {m : Message}
+    → Reached s at m → (u : ℕ) → P (fieldOf m u)
+each-field s P z f given.start u = rw (field-empty (commandIn s) u) z
+each-field s P z f (given.next {at} {m} r k) u =
+    ⊎-elim (λ e. rw (e .1) (f at m k)) (λ e. rw (e .1) (each-field s P z f r u)) (field-next s at m k u)
+
 none : {A : Type 0} (c u : ℕ) → fieldOf (emptyOf c) u .present ≡ true → A
 none c u p = not-both (fieldOf (emptyOf c) u .present) p (ap (λ (f : Field). f .present) (field-empty c u))
 
@@ -42,10 +57,10 @@ begin s =
 
 module _ (s : List ℕ) (at : ℕ) (m : Message) (i : Sound s at m) (k : RightTlv s at m) where
   small : typeAt s at < 8
-  small = type-small (m .command) (typeAt s at) (ne-eqb (roleOf (m .command) (typeAt s at)) foreign (k .expected))
+  small = type-small (m .command) (typeAt s at) (k .expected)
 
   not-1 : typeAt s at ≡ 1 → ⊥
-  not-1 = type-not-1 (m .command) (typeAt s at) (ne-eqb (roleOf (m .command) (typeAt s at)) foreign (k .expected))
+  not-1 = type-not-1 (m .command) (typeAt s at) (k .expected)
 
   abbrev m' : Message
   m' = withField m (typeAt s at) (valueAt s at)
@@ -79,7 +94,7 @@ module _ (s : List ℕ) (at : ℕ) (m : Message) (i : Sound s at m) (k : RightTl
       ⊎-elim
       (λ e. rw (e .1) (subst (λ (j : ℕ). Placed s (m .command) j (valueAt s at) (nextAt s at)) (e .0) new))
       (λ e. rw (e .1) (old u (rw (e .1) at p)))
-      (field-with m (typeAt s at) (valueAt s at) small not-1 u)
+      (field-next s at m k u)
 
   -- a field of m ends where the new TLV begins
   left : (u : ℕ) → fieldOf m u .present ≡ true → Before (fieldOf m u) (valueAt s at)
@@ -94,13 +109,13 @@ module _ (s : List ℕ) (at : ℕ) (m : Message) (i : Sound s at m) (k : RightTl
       ⊎-elim
       (λ e. absurd (n (sym (d .0) ∙ e .0)))
       (λ e. rw (d .1, e .1) (inr (left v (rw (e .1) at q))))
-      (field-with m (typeAt s at) (valueAt s at) small not-1 v))
+      (field-next s at m k v))
       (λ d.
       ⊎-elim
       (λ e. rw (d .1, e .1) (inl (left u (rw (d .1) at p))))
       (λ e. rw (d .1, e .1) (i .apart u v n (rw (d .1) at p) (rw (e .1) at q)))
-      (field-with m (typeAt s at) (valueAt s at) small not-1 v))
-      (field-with m (typeAt s at) (valueAt s at) small not-1 u)
+      (field-next s at m k v))
+      (field-next s at m k u)
 
   onward : Sound s (nextAt s at) m'
   onward =

@@ -2,10 +2,10 @@
 use Prim.Native.Nat.{ℕ, zero, suc, _%_, _≤_, _<_}
 use mathlib.Core.Path.{_≡_, refl, sym, ap, _∙_}
 use mathlib.Core.List.{List}
-use mathlib.Core.Bool.{true, false, _&&_, _||_}
+use mathlib.Core.Bool.{true, _&&_, _||_}
 use native.Mathlib.Omega.{arith}
 use native.Mathlib.Decide.{decLt}
-use borrow.Author.Tests.{leb-true, eqb-true, eqb-false, ne-eqb}
+use borrow.Author.Tests.{leb-true, eqb-true, ne-eqb}
 use lib.Dec.{leb, eqb}
 use lib.ListN.{length, getD, List·getD-eq-default}
 use Rattle.message_rules.specs.Rules.{foreign, noRoles, rolesOf, roleOf, noLengths, lengthsOf, lengthIn, lengthOk}
@@ -84,14 +84,14 @@ unfolding roleOf rolesOf
 no-type-1 c = rows (λ (r : List ℕ). getD r 1 foreign ≡ foreign) refl refl refl refl refl refl refl c
 
 -- a type that is not foreign to a command is below 8, and not 1
-pub type-small : (c t : ℕ) → eqb (roleOf c t) foreign ≡ false → t < 8
-type-small c t e = elim (decLt t 8) [
+pub type-small : (c t : ℕ) → (roleOf c t ≡ foreign → ⊥) → t < 8
+type-small c t own = elim (decLt t 8) [
   | yes h ↦ h
-  | no h ↦ absurd (eqb-false (roleOf c t) foreign e (no-type c t (omega arith)))
+  | no h ↦ absurd (own (no-type c t (omega arith)))
 ]
 
-pub type-not-1 : (c t : ℕ) → eqb (roleOf c t) foreign ≡ false → t ≡ 1 → ⊥
-type-not-1 c t e q = eqb-false (roleOf c t) foreign e (ap (roleOf c) q ∙ no-type-1 c)
+pub type-not-1 : (c t : ℕ) → (roleOf c t ≡ foreign → ⊥) → t ≡ 1 → ⊥
+type-not-1 c t own q = own (ap (roleOf c) q ∙ no-type-1 c)
 
 pub no-lengths
     : (t : ℕ) → (t ≡ 0 → ⊥) → (t ≡ 2 → ⊥) → (t ≡ 3 → ⊥) → (t ≡ 4 → ⊥) → (t ≡ 5 → ⊥) → (t ≡ 6 → ⊥) → (t ≡ 7 → ⊥) → lengthsOf t ≡ noLengths

@@ -8,7 +8,7 @@ use native.Mathlib.Omega.{arith}
 use native.Mathlib.Decide.{decLt}
 use native.Mathlib.Nat.{eq-or-lt-of-le}
 use native.Mathlib.Numerals.{add-one}
-use borrow.Author.Tests.{ltb-false, ne-eqb, not-false}
+use borrow.Author.Tests.{ltb-false, not-false}
 use lib.Dec.{ltb}
 use lib.ListN.{length, take, drop, getD, length-drop}
 use lib.Seq.{getD-append-add, drop-append-add, take-at, length-take-le}
@@ -19,7 +19,7 @@ use Rattle.message_rules.specs.declared.record.Message.{Message}
 use Rattle.message_reader.specs.declared.Answer.the-variants as answer
 use Rattle.message_writer.specs.declared.Written.{Written}
 use Rattle.message_writer.specs.declared.Written.the-variants as written
-use Rattle.message_rules.specs.Rules.{roleOf, foreign, needed}
+use Rattle.message_rules.specs.Rules.{roleOf, needed}
 use Rattle.message_rules.specs.Record.{absent, fieldOf, valueOf, withField, emptyOf, sizeTo}
 use Rattle.message_reader.specs.Reading.{commandIn, typeAt, lengthAt, nextAt, valueAt, readMessage}
 use Rattle.message_writer.specs.Writing.{writable, tlvBytes, bodyTo, headBytes, messageOf, writeAnswer, output}
@@ -210,7 +210,7 @@ module _ (s : List ℕ) (m : Message) (w : writable (length s) m ≡ true) where
   complete : (t : ℕ) → roleOf (placedTo m 8 .command) t ≡ needed → fieldOf (placedTo m 8) t .present ≡ true
   complete t n =
       let c = rw (placed-command m 8) at n in
-      let h : t < 8 = type-small (m .command) t (ne-eqb (roleOf (m .command) t) foreign (λ e. omega arith)) in
+      let h : t < 8 = type-small (m .command) t (λ e. omega arith) in
       ⊎-elim
       (λ (p : fieldOf m t .present ≡ true). simp (placed-all m t, p))
       (λ (p : fieldOf m t .present ≡ false). absurd (ok-absent (length s) m t (ok-below s m w t h) p c))

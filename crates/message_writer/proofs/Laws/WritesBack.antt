@@ -95,10 +95,10 @@ module _ (s : List ℕ) (b : Bytes s) where
     new = withField m (typeAt s at) (valueAt s at)
 
     small : typeAt s at < 8
-    small = type-small (m .command) (typeAt s at) (ne-eqb (roleOf (m .command) (typeAt s at)) foreign (k .expected))
+    small = type-small (m .command) (typeAt s at) (k .expected)
 
     not-1 : typeAt s at ≡ 1 → ⊥
-    not-1 = type-not-1 (m .command) (typeAt s at) (ne-eqb (roleOf (m .command) (typeAt s at)) foreign (k .expected))
+    not-1 = type-not-1 (m .command) (typeAt s at) (k .expected)
 
     own : fieldOf new (typeAt s at) ≡ valueAt s at
     own = field-same m (valueAt s at) (typeAt s at) small not-1

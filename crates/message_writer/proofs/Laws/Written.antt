@@ -5,7 +5,7 @@ use mathlib.Core.Bool.{Bool, true, false, not, _&&_}
 use mathlib.Core.List.{List, _++_}
 use mathlib.Core.Logic.{_⊎_, inl, inr, ⊎-elim}
 use native.Mathlib.Omega.{arith}
-use borrow.Author.Tests.{leb-false, eqb-true, ne-eqb, not-false}
+use borrow.Author.Tests.{leb-false, eqb-true, not-false}
 use lib.Dec.{leb, eqb}
 use lib.ListN.{length, drop, length-append, length-drop}
 use lib.Seq.{drop-at}
@@ -63,7 +63,7 @@ module _ (s : List ℕ) (m : Message) where
   no-reason w (given.no-command e) = not-both (knownCommand (m .command)) (known s m w) e
   no-reason w (given.foreign-tlv t p e) = ok-expected (length s) m t (ok-below s m w t (field-type m t p .0)) p e
   no-reason w (given.absent-tlv t p e) =
-      let h : t < 8 = type-small (m .command) t (ne-eqb (roleOf (m .command) t) foreign (λ (f : roleOf (m .command) t ≡ foreign). omega arith)) in
+      let h : t < 8 = type-small (m .command) t (λ (f : roleOf (m .command) t ≡ foreign). omega arith) in
       ok-absent (length s) m t (ok-below s m w t h) p e
   no-reason w (given.too-long h) = let l = size-small s m w in omega arith
 

@@ -1,12 +1,10 @@
 -- Each test gives the fault that it finds, and they all together a right TLV. Assumes nothing.
 use mathlib.Core.Path.{_≡_, sym, ap, _∙_}
-use mathlib.Core.Bool.{false}
 use mathlib.Core.Logic.{inl, inr}
 use native.Mathlib.Omega.{arith}
-use borrow.Author.Tests.{ne-eqb, eqb-false, not-true, not-false}
+use borrow.Author.Tests.{not-true, not-false}
 use borrow.Author.Needs.{needs}
 use denote.Ref.{now}
-use lib.Dec.{eqb}
 use Rattle.message_rules.specs.Rules.{roleOf, foreign, lengthOk}
 use Rattle.message_rules.proofs.Laws.Rules.{type-small, type-not-1}
 use Rattle.message_reader.specs.declared.tlv.Tlv.the-variants as tlv
@@ -40,8 +38,8 @@ returns-4 c =
 
 -- the type is one of the command's
 own : (c : tie.After-length-ok)
-    → eqb (roleOf (c .before .before .before .before .before .before .before .before .args .command) (typeAt (now (c .before .before .before .before .before .before .before .before .args .bytes)) (c .before .before .before .before .before .before .before .before .args .at))) foreign ≡ false
-own c = ne-eqb _ foreign (λ e. c .before .if3 .left (c .before .before .role .ensures ∙ e))
+    → roleOf (c .before .before .before .before .before .before .before .before .args .command) (typeAt (now (c .before .before .before .before .before .before .before .before .args .bytes)) (c .before .before .before .before .before .before .before .before .args .at)) ≡ foreign → ⊥
+own c e = c .before .if3 .left (c .before .before .role .ensures ∙ e)
 
 returns-5 : tie.Need-returns-5
 unfolding messageFrom
@@ -51,7 +49,7 @@ returns-5 c =
     let a = r .before .before .before .before .before .before .args in
     let u = r .before .before .u16-at in
     let o = own l in
-    sym (tlv-refused _ _ _ _ (given.repeated (omega (arith, u .ensures)) (eqb-false _ foreign o)
+    sym (tlv-refused _ _ _ _ (given.repeated (omega (arith, u .ensures)) o
     (ap (lengthOk _) (sym (u .ensures)) ∙ sym (l .length-ok .ensures) ∙ not-false (l .length-ok .result) (c .before .before .if4 .left))
     (found-there _ (now (a .values)) _ (type-small _ _ o) (type-not-1 _ _ o) (c .if5 .taken))))
 
@@ -66,7 +64,7 @@ returns-6 c =
     ap (tlv.Right (typeAt (now (a .bytes)) (a .at))) (u .ensures)
     ∙ sym (tlv-taken _ _ _ (record {
       whole = omega (arith, u .ensures);
-      expected = eqb-false _ foreign o;
+      expected = o;
       fitting = ap (lengthOk _) (sym (u .ensures)) ∙ sym (l .length-ok .ensures) ∙ not-false (l .length-ok .result) (c .before .before .if4 .left);
       first = found-absent _ (now (a .values)) _ (type-small _ _ o) (type-not-1 _ _ o) (c .if5 .left);
     }))
