@@ -62,7 +62,7 @@ messageOutput s xs out = cond (ltb (length xs) 64) out (output s (messageIn xs) 
 
 -- ---- What a record and the bytes that it was read from say
 
--- a number, or 10 where the record's lent bytes are too few
+-- a number of a record, or 10 where its lent bytes are fewer than its layout's
 unfoldable pub numberAnswer : ℕ → ℕ → Number
 numberAnswer lent n = cond (ltb lent 64) (record { status = numberOf status.NoRoom; value = 0 }) (record { status = 0; value = n })
 

@@ -56,7 +56,7 @@ pub fn write(bytes: &[u8], record: &[u8], out: &mut [u8]) -> Written
     }
 }
 
-// A number that a record gives, of which so many bytes are lent.
+// The answer with a number of a record, or 10 where its lent bytes are fewer than its layout's.
 fn number_answer(lent: usize, value: u16) -> Number
     ensures { λ r. ⌜ r ≡ numberAnswer lent value ⌝ }
 {
