@@ -1,7 +1,7 @@
 -- The tests are those of the definition. Assumes nothing.
 use Prim.Native.Nat.{_+_}
 use mathlib.Core.Path.{_≡_}
-use mathlib.Core.Bool.{not, cond, _&&_}
+use mathlib.Core.Bool.{false, not, cond, _&&_}
 use lib.Dec.{leb, eqb}
 use borrow.Author.Tests.{eq-eqb, ne-eqb, le-leb, lt-leb, not-true, not-false}
 use Rattle.message_rules.specs.Rules.{foreign, needed, lengthOk}
@@ -35,12 +35,8 @@ returns-3 : tie.Need-returns-3
 returns-3 c =
     let i = c .before .before .before in
     let f = i .before .before .before in
-    simp (
-      known f,
-      not-false (f .field-of .result .present) (i .before .if1 .left),
-      ne-eqb _ _ (i .if2 .left),
-      lt-leb _ _ (c .if3 .taken),
-    )
+    let past : leb (f .field-of .result .at + f .field-of .result .len) (f .before .before .args .n) ≡ false = lt-leb _ _ (c .if3 .taken) in
+    simp (known f, not-false (f .field-of .result .present) (i .before .if1 .left), ne-eqb _ _ (i .if2 .left), past)
 
 returns-4 : tie.Need-returns-4
 returns-4 c =
