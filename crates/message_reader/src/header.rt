@@ -2,7 +2,7 @@
 ghost use mathlib.Core.Path.{_≡_};
 ghost use Prim.Native.Nat.{_≤_};
 ghost use lib.ListN.{length};
-ghost use Rattle.message_reader.specs.Reading.{sizeIn, readSize, headerStatus};
+ghost use Rattle.message_reader.specs.Reading.{sizeIn, commandIn, readSize, headerStatus};
 use message_rules::rules;
 use wire::number::u16_at;
 use wire::status::Status;
@@ -31,9 +31,9 @@ pub fn read_size(bytes: &[u8]) -> Size
     Size::Declared(size)
 }
 
-// What the header of a message of that Size is refused with, or Accepted.
-fn check_after_size(bytes: &[u8], size: usize) -> Status
-    requires { ⌜ (4 ≤ length (now bytes)) × (size ≡ sizeIn (now bytes)) × (4 ≤ size) ⌝ }
+// What the header of a message of that Size and command is refused with, or Accepted.
+fn check_after_size(bytes: &[u8], size: usize, command: u8) -> Status
+    requires { ⌜ (4 ≤ length (now bytes)) × (size ≡ sizeIn (now bytes)) × (4 ≤ size) × (command ≡ commandIn (now bytes)) ⌝ }
     ensures { λ r. ⌜ r ≡ headerStatus (now (bytes .entry)) ⌝ }
 {
     if bytes.len() < size {
@@ -45,18 +45,19 @@ fn check_after_size(bytes: &[u8], size: usize) -> Status
     if bytes[2] != 1 {
         return Status::WrongHeader;
     }
-    if !rules::known_command(bytes[3]) {
+    if !rules::known_command(command) {
         return Status::UnknownKind;
     }
     Status::Accepted
 }
 
-// What the header of a message is refused with: its size, version or command; or Accepted.
-pub(crate) fn check(bytes: &[u8]) -> Status
+// What the header of a message of that command is refused with: its size, version or command; or Accepted.
+pub(crate) fn check(bytes: &[u8], command: u8) -> Status
+    requires { ⌜ command ≡ commandIn (now bytes) ⌝ }
     ensures { λ r. ⌜ r ≡ headerStatus (now (bytes .entry)) ⌝ }
 {
     match read_size(bytes) {
-        Size::Declared(size) => check_after_size(bytes, size),
+        Size::Declared(size) => check_after_size(bytes, size, command),
         Size::Refused { status } => status,
     }
 }

@@ -13,6 +13,7 @@ use crate::tlv::Tlv;
 use message_rules::record::Field;
 use message_rules::record::Message;
 use message_rules::rules;
+use wire::number::u8_at;
 use wire::status;
 use wire::status::Status;
 
@@ -88,11 +89,12 @@ pub fn locate(bytes: &[u8], values: &mut Values) -> u64
     ensures values { λ _. ⌜ now (values .exit) ≡ valuesAfter (readMessage (now (bytes .entry))) ⌝ }
 {
     *values = [0u64; 8];
-    let refusal = status::number(header::check(bytes));
+    let command = u8_at(bytes, 3);
+    let refusal = status::number(header::check(bytes, command));
     if refusal != 0 {
         return refusal as u64;
     }
-    walk(bytes, bytes[3], values)
+    walk(bytes, command, values)
 }
 
 // The field of a value; no value begins at 0.

@@ -8,7 +8,7 @@ use Rattle.message_reader.proofs.header.check.Tie as tie
 check-after-size-requires : tie.Need-check-after-size-requires
 check-after-size-requires c κs =
     let d = size-declared _ _ (sym (c .before .before .before .read-size .ensures) ∙ c .before .size .given .1) in
-    (d .four, d .size, d .counted)
+    (d .four, d .size, d .counted, c .before .before .before .before .before .pre)
 
 returns-2 : tie.Need-returns-2
 returns-2 c = size-refused _ _ (sym (c .before .before .before .read-size .ensures) ∙ c .before .status .given .1) .0

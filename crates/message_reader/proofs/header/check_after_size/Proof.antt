@@ -16,38 +16,38 @@ use Rattle.message_reader.proofs.header.check_after_size.Statement.{sta
 use Rattle.message_reader.proofs.header.check_after_size.Tie as tie
 
 rest
-    : (s : List ℕ) (n : ℕ) → (4 ≤ length s) × (n ≡ sizeIn s) × (4 ≤ n)
+    : (s : List ℕ) (n c : ℕ) → (4 ≤ length s) × (n ≡ sizeIn s) × (4 ≤ n) × (c ≡ commandIn s)
     → headerStatus s
     ≡ cond (ltb (length s) n) status.Truncated
     (cond (ltb n (length s)) status.WrongSize
     (cond (not (eqb (versionIn s) 1)) status.WrongHeader
-    (cond (not (knownCommand (commandIn s))) status.UnknownKind status.Accepted)))
+    (cond (not (knownCommand c)) status.UnknownKind status.Accepted)))
 unfolding firstOf headerStatus
-rest s n p = simp (le-ltb (length s) 4 (p .0), ← p .1, le-ltb n 4 (p .2))
+rest s n c p = simp (le-ltb (length s) 4 (p .0), ← p .1, le-ltb n 4 (p .2), p .3)
 
 returns : tie.Need-returns
-returns c = simp (rest _ _ (c .before .before .pre), lt-ltb _ _ (c .if1 .taken))
+returns c = simp (rest _ _ _ (c .before .before .pre), lt-ltb _ _ (c .if1 .taken))
 
 returns-2 : tie.Need-returns-2
-returns-2 c = simp (rest _ _ (c .before .before .before .pre), le-ltb _ _ (c .before .if1 .left), lt-ltb _ _ (c .if2 .taken))
+returns-2 c = simp (rest _ _ _ (c .before .before .before .pre), le-ltb _ _ (c .before .if1 .left), lt-ltb _ _ (c .if2 .taken))
 
 returns-3 : tie.Need-returns-3
 returns-3 c =
     let b = c .before .before in
     let a = b .before .before .before in
     let other = ne-eqb (versionIn (now (a .args .bytes))) 1 (c .if3 .taken) in
-    simp (rest _ _ (a .pre), le-ltb _ _ (b .before .if1 .left), le-ltb _ _ (b .if2 .left), other)
+    simp (rest _ _ _ (a .pre), le-ltb _ _ (b .before .if1 .left), le-ltb _ _ (b .if2 .left), other)
 
 -- the size and the version are right
 right
-    : (c : tie.After-known-command) → headerStatus (now (c .before .before .before .before .before .before .before .args .bytes))
+    : (c : tie.After-known-command) → headerStatus (now (c .before .before .before .before .before .before .args .bytes))
     ≡ cond (not (c .known-command .result)) status.UnknownKind status.Accepted
 right c =
-    let v = c .before .before in
+    let v = c .before in
     let b = v .before .before in
     let a = b .before .before .before in
     let one : versionIn (now (a .args .bytes)) ≡ 1 = v .if3 .left in
-    simp (rest _ _ (a .pre), le-ltb _ _ (b .before .if1 .left), le-ltb _ _ (b .if2 .left), one, ← c .known-command .ensures)
+    simp (rest _ _ _ (a .pre), le-ltb _ _ (b .before .if1 .left), le-ltb _ _ (b .if2 .left), one, ← c .known-command .ensures)
 
 returns-4 : tie.Need-returns-4
 returns-4 c = sym (right (c .before) ∙ simp (not-true (c .before .known-command .result) (c .if4 .taken)))
@@ -63,7 +63,6 @@ check-after-size-spec =
     returns-2
     (λ c. search needs)
     returns-3
-    (λ c. search needs)
     (λ c κs. search needs)
     returns-4
     returns-5)
