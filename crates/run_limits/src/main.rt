@@ -4,7 +4,7 @@ use cursor_limits::value::Answer;
 use cursor_limits::value::Limits;
 use cursor_limits::value::Value;
 use cursor_limits::value::Xor;
-use libc::STDOUT_FILENO;
+use wire::status;
 
 // The fields of a value.
 enum Field {
@@ -88,34 +88,25 @@ fn count(field: Field) -> u32
 }
 
 fn show_count(name: &[u8], field: Field) {
-    io::write_all(STDOUT_FILENO, name);
-    io::write_all(STDOUT_FILENO, b" ");
-    io::print_decimal(STDOUT_FILENO, count(field) as u64);
-    io::write_all(STDOUT_FILENO, b"\n");
-}
-
-fn show_number(name: &[u8], number: u16) {
-    io::write_all(STDOUT_FILENO, name);
-    io::print_decimal(STDOUT_FILENO, number as u64);
+    print::field(name, count(field) as u64);
+    print::text(b"\n");
 }
 
 fn show_limits(limits: Limits) {
     let xor = limits.xor;
     if is_full(xor) {
-        io::write_all(STDOUT_FILENO, b"xor full");
+        print::text(b"xor full");
     } else {
-        io::write_all(STDOUT_FILENO, b"xor none");
+        print::text(b"xor none");
     }
-    show_number(b" width ", limits.width);
-    show_number(b" height ", limits.height);
-    show_number(b" port ", limits.port);
+    print::field(b" width", limits.width as u64);
+    print::field(b" height", limits.height as u64);
+    print::field(b" port", limits.port as u64);
 }
 
 fn show_value(value: Value) {
     match value {
-        Value::NotSupported => {
-            io::write_all(STDOUT_FILENO, b"not supported");
-        }
+        Value::NotSupported => print::text(b"not supported"),
         Value::Supported(limits) => show_limits(limits),
     }
 }
@@ -124,19 +115,18 @@ fn show_answer(answer: Answer) {
     match answer {
         Answer::Accepted(value) => show_value(value),
         Answer::Refused { status, place } => {
-            io::write_all(STDOUT_FILENO, b"refused ");
-            io::print_decimal(STDOUT_FILENO, wire::status::number(status) as u64);
+            print::field(b"refused", status::number(status) as u64);
         }
     }
 }
 
 // The text in quotes, and what it means.
 fn show(text: &[u8]) {
-    io::write_all(STDOUT_FILENO, b"\"");
-    io::write_all(STDOUT_FILENO, text);
-    io::write_all(STDOUT_FILENO, b"\" ");
+    print::text(b"\"");
+    print::text(text);
+    print::text(b"\" ");
     show_answer(cursor_limits::read(text));
-    io::write_all(STDOUT_FILENO, b"\n");
+    print::text(b"\n");
 }
 
 fn main() {

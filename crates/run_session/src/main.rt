@@ -3,7 +3,6 @@
 // made in place, on a session record that is lent. A line each:
 //     STATE EVENT KEPT CARRIED OPTIONS BROUGHT: STATUS CHECK STATE OPTIONS FIRST-BYTE-OF-KEPT-ID-OR-0
 
-use libc::STDOUT_FILENO;
 use message_rules::accessors::SourceId;
 use session_step::in_place;
 use session_step::step::Stepped;
@@ -11,28 +10,14 @@ use session_table::record::Session;
 use session_table::record::State;
 use wire::status;
 
-fn print(text: &[u8]) {
-    io::write_all(STDOUT_FILENO, text);
-}
-
-// A space and n.
-fn print_number(n: u64) {
-    print(b" ");
-    io::print_decimal(STDOUT_FILENO, n);
-}
-
-fn flag(b: bool) -> u64 {
-    if b { 1 } else { 0 }
-}
-
 fn print_state(state: State) {
     match state {
-        State::Waiting => print(b"Waiting"),
-        State::Handshake => print(b"Handshake"),
-        State::PinWait => print(b"PinWait"),
-        State::ReadyWait => print(b"ReadyWait"),
-        State::Projecting => print(b"Projecting"),
-        State::Closed => print(b"Closed"),
+        State::Waiting => print::text(b"Waiting"),
+        State::Handshake => print::text(b"Handshake"),
+        State::PinWait => print::text(b"PinWait"),
+        State::ReadyWait => print::text(b"ReadyWait"),
+        State::Projecting => print::text(b"Projecting"),
+        State::Closed => print::text(b"Closed"),
     }
 }
 
@@ -54,18 +39,18 @@ fn first_byte(source: SourceId) -> u64 {
 
 fn print_session(session: Session) {
     let state = session.state;
-    print(b" ");
+    print::text(b" ");
     print_state(state);
-    print_number(session.options as u64);
+    print::number(session.options as u64);
     let kept = session.source;
-    print_number(first_byte(kept));
+    print::number(first_byte(kept));
 }
 
 fn print_stepped(after: Stepped) {
     let answer = after.answer;
     let status = answer.status;
-    print_number(status::number(status) as u64);
-    print_number(flag(answer.check));
+    print::number(status::number(status) as u64);
+    print::number(answer.check as u64);
     let session = after.session;
     print_session(session);
 }
@@ -86,14 +71,14 @@ fn line(state: State, event: u8, kept: bool, which: u8, options: u8, brought: u8
         source: source(kept, 7),
     };
     print_state(state);
-    print_number(event as u64);
-    print_number(flag(kept));
-    print_number(which as u64);
-    print_number(options as u64);
-    print_number(brought as u64);
-    print(b":");
+    print::number(event as u64);
+    print::number(kept as u64);
+    print::number(which as u64);
+    print::number(options as u64);
+    print::number(brought as u64);
+    print::text(b":");
     print_stepped(in_place::lend_and_step(session, event, carried(which), brought));
-    print(b"\n");
+    print::text(b"\n");
 }
 
 fn brought_lines(state: State, event: u8, kept: bool, which: u8, options: u8) {

@@ -1,71 +1,44 @@
 // Runs the calls of `wire` and prints what they answer: numbers read at each place of seven bytes, numbers written at each place of four,
 // how many of all sequence numbers are newer than some, and the number of each status.
-use libc::STDOUT_FILENO;
 use wire::number;
 use wire::sequence;
 use wire::signed;
 use wire::status;
 use wire::status::Status;
 
-fn print(text: &[u8]) {
-    io::write_all(STDOUT_FILENO, text);
-}
-
-// A space and n.
-fn print_number(n: u64) {
-    print(b" ");
-    io::print_decimal(STDOUT_FILENO, n);
-}
-
 // A space and z, by its two's complement.
-fn print_i16(z: i16) {
-    let bits = signed::unsigned16(z) as u64;
-    if z < 0 {
-        print(b" -");
-        io::print_decimal(STDOUT_FILENO, 65536 - bits);
-    } else {
-        print_number(bits);
-    }
-}
-
 fn print_i32(z: i32) {
     let bits = signed::unsigned32(z) as u64;
     if z < 0 {
-        print(b" -");
-        io::print_decimal(STDOUT_FILENO, 4294967296 - bits);
+        print::text(b" -");
+        print::decimal(4294967296 - bits);
     } else {
-        print_number(bits);
+        print::number(bits);
     }
-}
-
-fn flag(b: bool) -> u64 {
-    if b { 1 } else { 0 }
 }
 
 // The numbers at one place: the place, then one, two and four bytes unsigned, two and four bytes signed.
 fn read_line(at: usize) {
     let bytes = b"\x80\x00\xff\xfe\x7f\x01\x1c";
-    print(b"read");
-    print_number(at as u64);
-    print_number(number::u8_at(bytes, at) as u64);
-    print_number(number::u16_at(bytes, at) as u64);
-    print_number(number::u32_at(bytes, at) as u64);
-    print_i16(signed::signed16(number::u16_at(bytes, at)));
+    print::field(b"read", at as u64);
+    print::number(number::u8_at(bytes, at) as u64);
+    print::number(number::u16_at(bytes, at) as u64);
+    print::number(number::u32_at(bytes, at) as u64);
+    print::signed(signed::signed16(number::u16_at(bytes, at)));
     print_i32(signed::signed32(number::u32_at(bytes, at)));
-    print(b"\n");
+    print::text(b"\n");
 }
 
 // What a number written at one place leaves in four bytes of 9: the number of bytes written, the place, whether they fit, and the four.
 fn written_line(size: u64, at: usize, fits: bool, out: &[u8]) {
-    print(b"write");
-    print_number(size);
-    print_number(at as u64);
-    print_number(flag(fits));
-    print_number(number::u8_at(out, 0) as u64);
-    print_number(number::u8_at(out, 1) as u64);
-    print_number(number::u8_at(out, 2) as u64);
-    print_number(number::u8_at(out, 3) as u64);
-    print(b"\n");
+    print::field(b"write", size);
+    print::number(at as u64);
+    print::number(fits as u64);
+    print::number(number::u8_at(out, 0) as u64);
+    print::number(number::u8_at(out, 1) as u64);
+    print::number(number::u8_at(out, 2) as u64);
+    print::number(number::u8_at(out, 3) as u64);
+    print::text(b"\n");
 }
 
 // FE, 1C44 and FFFFFFF6 (−10), each written at the place.
@@ -99,24 +72,23 @@ fn count_newer(known: bool, last: u16) -> u32 {
 
 // Whether `last` is known, `last`, how many numbers are newer, and whether those 0, 1, 32,767, 32,768 and 65,535 ahead are.
 fn newer_line(known: bool, last: u16) {
-    print(b"newer");
-    print_number(flag(known));
-    print_number(last as u64);
-    print_number(count_newer(known, last) as u64);
-    print_number(flag(sequence::newer(known, last, last)));
-    print_number(flag(sequence::newer(known, last, std::num::wrapping_add_u16(last, 1))));
-    print_number(flag(sequence::newer(known, last, std::num::wrapping_add_u16(last, 32767))));
-    print_number(flag(sequence::newer(known, last, std::num::wrapping_add_u16(last, 32768))));
-    print_number(flag(sequence::newer(known, last, std::num::wrapping_add_u16(last, 65535))));
-    print(b"\n");
+    print::field(b"newer", known as u64);
+    print::number(last as u64);
+    print::number(count_newer(known, last) as u64);
+    print::number(sequence::newer(known, last, last) as u64);
+    print::number(sequence::newer(known, last, std::num::wrapping_add_u16(last, 1)) as u64);
+    print::number(sequence::newer(known, last, std::num::wrapping_add_u16(last, 32767)) as u64);
+    print::number(sequence::newer(known, last, std::num::wrapping_add_u16(last, 32768)) as u64);
+    print::number(sequence::newer(known, last, std::num::wrapping_add_u16(last, 65535)) as u64);
+    print::text(b"\n");
 }
 
 fn print_status(s: Status) {
-    print_number(status::number(s) as u64);
+    print::number(status::number(s) as u64);
 }
 
 fn status_line() {
-    print(b"status");
+    print::text(b"status");
     print_status(Status::Accepted);
     print_status(Status::Truncated);
     print_status(Status::WrongSize);
@@ -136,7 +108,7 @@ fn status_line() {
     print_status(Status::NotGrammar);
     print_status(Status::ImageNotHeld);
     print_status(Status::NotWritable);
-    print(b"\n");
+    print::text(b"\n");
 }
 
 fn main() {
