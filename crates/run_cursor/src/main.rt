@@ -1,80 +1,34 @@
-// Runs the calls of `cursor_pointer`, `cursor_store` and `cursor_picture` and prints a line a call: the call, the paper's number of its status, and what then
-// stands in the records, in five bytes of the picture and in the marks beside them. The packets are P9 and P10 of 01, those of 003 section 4,
-// and orders, repeats and refusals of a small picture.
-use cursor_fragment::start::Start;
-use cursor_picture::Picture;
-use cursor_picture::completeness::CompleteAnswer;
-use cursor_pointer::Pointer;
-use cursor_pointer::PointerAnswer;
-use cursor_store::storing::StoreAnswer;
-use libc::STDOUT_FILENO;
+// Runs the calls of the cursor stream as a host does, on records that it lends, and prints a line a call: the call, the paper's number of its
+// status, and what then stands in the lent records, in five bytes of the picture and in the marks beside them. The packets are P9 and P10 of 01,
+// those of 003 section 4, and orders, repeats and refusals of a small picture.
+use cursor_layout::picture_layout;
+use cursor_layout::pointer_layout;
 use scan::bytes;
 use wire::number;
-use wire::signed;
-use wire::status;
-use wire::status::Status;
 
-struct Records {
-    pointer: Pointer,
-    picture: Picture,
+fn print_pointer(record: &[u8]) {
+    let pointer = pointer_layout::read(record);
+    print::field(b" pointer", pointer.known as u64);
+    print::number(pointer.sequence as u64);
+    print::signed(pointer.x);
+    print::signed(pointer.y);
 }
 
-fn print(text: &[u8]) {
-    io::write_all(STDOUT_FILENO, text);
-}
-
-// A space and n.
-fn print_number(n: u64) {
-    print(b" ");
-    io::print_decimal(STDOUT_FILENO, n);
-}
-
-// A space and z, by its two's complement.
-fn print_signed(z: i16) {
-    let bits = signed::unsigned16(z) as u64;
-    if z < 0 {
-        print(b" -");
-        io::print_decimal(STDOUT_FILENO, 65536 - bits);
-    } else {
-        print_number(bits);
-    }
-}
-
-fn flag(b: bool) -> u64 {
-    if b { 1 } else { 0 }
-}
-
-fn print_status(s: Status) {
-    print_number(status::number(s) as u64);
-}
-
-fn print_pointer(pointer: Pointer) {
-    print(b" pointer");
-    print_number(flag(pointer.known));
-    print_number(pointer.sequence as u64);
-    print_signed(pointer.x);
-    print_signed(pointer.y);
-}
-
-fn print_start(start: Start) {
-    print_number(start.image_type as u64);
-    print_number(start.hot_x as u64);
-    print_number(start.hot_y as u64);
-}
-
-fn print_picture(picture: Picture) {
-    print(b" picture");
-    print_number(flag(picture.opened));
-    print_number(picture.id as u64);
-    print_number(picture.total as u64);
-    print_number(picture.opening as u64);
-    print_number(flag(picture.seen));
+fn print_picture(record: &[u8]) {
+    let picture = picture_layout::read(record);
+    print::field(b" picture", picture.opened as u64);
+    print::number(picture.id as u64);
+    print::number(picture.total as u64);
+    print::number(picture.opening as u64);
+    print::number(picture.seen as u64);
     let start = picture.start;
-    print_start(start);
+    print::number(start.image_type as u64);
+    print::number(start.hot_x as u64);
+    print::number(start.hot_y as u64);
 }
 
 fn print_byte(s: &[u8], at: usize) {
-    print_number(number::u8_at(s, at) as u64);
+    print::number(number::u8_at(s, at) as u64);
 }
 
 // The first byte, those `step - 1`, `step` and `2 * step - 1` places on, and the next one.
@@ -90,147 +44,115 @@ fn print_five(s: &[u8], step: usize) {
     }
 }
 
-fn call_position(pointer: Pointer, packet: &[u8]) -> Pointer {
-    print(b"position");
-    let next = match cursor_pointer::position(pointer, packet) {
-        PointerAnswer::Accepted(moved) => {
-            print_status(Status::Accepted);
-            moved
-        }
-        PointerAnswer::Refused { status, place } => {
-            print_status(status);
-            pointer
-        }
-    };
-    print_pointer(next);
-    print(b"\n");
-    next
-}
-
-fn records_after(answer: StoreAnswer, records: Records) -> Records {
-    match answer {
-        StoreAnswer::Accepted(picture, pointer) => {
-            print_status(Status::Accepted);
-            Records {
-                pointer: pointer,
-                picture: picture,
-            }
-        }
-        StoreAnswer::Refused { status, place } => {
-            print_status(status);
-            records
-        }
-    }
-}
-
-fn print_records(records: Records) {
-    let pointer = records.pointer;
-    let picture = records.picture;
+fn call_position(pointer: &mut [u8], packet: &[u8]) {
+    let answer = cursor_calls::position(pointer, packet);
+    print::field(b"position", answer.status as u64);
     print_pointer(pointer);
-    print_picture(picture);
+    print::text(b"\n");
 }
 
 fn call_store(
-    records: Records,
+    pointer: &mut [u8],
+    picture: &mut [u8],
     packet: &[u8],
     image: &mut [u8],
     marks: &mut [u8],
     step: usize,
-) -> Records {
-    print(b"store");
-    let pointer = records.pointer;
-    let picture = records.picture;
-    let answer = cursor_store::store(pointer, picture, packet, image, marks);
-    let next = records_after(answer, records);
-    print_records(next);
-    print(b" bytes");
+) {
+    let answer = cursor_calls::store(pointer, picture, packet, image, marks);
+    print::field(b"store", answer.status as u64);
+    print_pointer(pointer);
+    print_picture(picture);
+    print::text(b" bytes");
     print_five(image, step);
-    print(b" marks");
+    print::text(b" marks");
     print_five(marks, step);
-    print(b"\n");
-    next
+    print::text(b"\n");
 }
 
-fn call_complete(records: Records, image: &[u8], marks: &[u8]) {
-    print(b"complete");
-    let picture = records.picture;
-    match cursor_picture::complete(picture, image, marks) {
-        CompleteAnswer::Yes => print(b" yes"),
-        CompleteAnswer::No => print(b" no"),
-        CompleteAnswer::Refused { status, place } => print_status(status),
+fn call_complete(picture: &[u8], image: &[u8], marks: &[u8]) {
+    let answer = cursor_calls::complete(picture, image, marks);
+    if answer.status != 0 {
+        print::field(b"complete", answer.status as u64);
+    } else if answer.yes {
+        print::text(b"complete yes");
+    } else {
+        print::text(b"complete no");
     }
-    ;
-    print(b"\n");
-}
-
-fn fresh() -> Records {
-    let pointer = Pointer::fresh();
-    let picture = Picture::fresh();
-    Records {
-        pointer: pointer,
-        picture: picture,
-    }
+    print::text(b"\n");
 }
 
 // P9, the same again, 32,767 ahead (with the position of 003 section 4), an older one, 65,535, 0 after it; then a start, a wrong size,
 // too few bytes twice, too many, and an SSRC that is not 0.
 fn positions() {
-    let p = Pointer::fresh();
-    let p = call_position(
-        p,
+    let mut pointer = [0u8; pointer_layout::LENGTH];
+    cursor_calls::pointer_fresh(&mut pointer);
+    call_position(
+        &mut pointer,
         b"\x80\x00\x00\x05\x00\x00\x00\x00\x00\x00\x00\x00\x01\x00\x07\xff\xfe\x00\x0a",
     );
-    let p = call_position(
-        p,
+    call_position(
+        &mut pointer,
         b"\x80\x00\x00\x05\x00\x00\x00\x00\x00\x00\x00\x00\x01\x00\x07\xff\xfe\x00\x0a",
     );
-    let p = call_position(
-        p,
+    call_position(
+        &mut pointer,
         b"\x80\x00\x80\x04\x00\x00\x00\x00\x00\x00\x00\x00\x01\x00\x07\x00\x0c\x00\x0a",
     );
-    let p = call_position(
-        p,
+    call_position(
+        &mut pointer,
         b"\x80\x00\x00\x05\x00\x00\x00\x00\x00\x00\x00\x00\x01\x00\x07\xff\xfe\x00\x0a",
     );
-    let p = call_position(
-        p,
+    call_position(
+        &mut pointer,
         b"\x80\x00\xff\xff\x00\x00\x00\x00\x00\x00\x00\x00\x01\x00\x07\x00\x01\x00\x02",
     );
-    let p = call_position(
-        p,
+    call_position(
+        &mut pointer,
         b"\x80\x00\x00\x00\x00\x00\x00\x00\x00\x00\x00\x00\x01\x00\x07\x80\x00\x7f\xff",
     );
-    let p = call_position(
-        p,
+    call_position(
+        &mut pointer,
         b"\x80\x00\x00\x05\x00\x00\x00\x00\x00\x00\x00\x00\x02\x00\x12\x00\x00\x00\x00\x00\x01\x00\x00\x00\x00\x01\x00\x00\x00\x00",
     );
-    let p = call_position(
-        p,
+    call_position(
+        &mut pointer,
         b"\x80\x00\x00\x05\x00\x00\x00\x00\x00\x00\x00\x00\x01\x00\x08\xff\xfe\x00\x0a\x00",
     );
-    let p = call_position(
-        p,
+    call_position(
+        &mut pointer,
         b"\x80\x00\x00\x05\x00\x00\x00\x00\x00\x00\x00\x00\x01\x00",
     );
-    let p = call_position(
-        p,
+    call_position(
+        &mut pointer,
         b"\x80\x00\x00\x05\x00\x00\x00\x00\x00\x00\x00\x00\x01\x00\x07\xff\xfe\x00",
     );
-    let p = call_position(
-        p,
+    call_position(
+        &mut pointer,
         b"\x80\x00\x00\x05\x00\x00\x00\x00\x00\x00\x00\x00\x01\x00\x07\xff\xfe\x00\x0a\x00",
     );
     call_position(
-        p,
+        &mut pointer,
         b"\x80\x00\x00\x05\x00\x00\x00\x00\x00\x00\x00\x01\x01\x00\x07\xff\xfe\x00\x0a",
     );
 }
 
 // P10, each on fresh records and untouched bytes: total 8; offset 8 with no data; offset 7 with two bytes; offset FFFFFFFF hex.
 fn offset_call(packet: &[u8]) {
+    let mut pointer = [0u8; pointer_layout::LENGTH];
+    let mut picture = [0u8; picture_layout::LENGTH];
+    cursor_calls::pointer_fresh(&mut pointer);
+    cursor_calls::picture_fresh(&mut picture);
     let mut image = [46u8; 9];
     let mut marks = [7u8; 9];
-    call_store(fresh(), packet, &mut image, &mut marks, 4);
+    call_store(
+        &mut pointer,
+        &mut picture,
+        packet,
+        &mut image,
+        &mut marks,
+        4,
+    );
 }
 
 fn offsets() {
@@ -245,67 +167,91 @@ fn offsets() {
     );
 }
 
-// A packet's header, and one value in each place after it.
-fn make(packet: &mut [u8], header: &[u8], value: u8) {
-    bytes::fill(packet, value);
-    bytes::copy(packet, header);
-}
-
 // 003 section 4: 512 bytes of image, a start with the first 256 and a continuation with the others, sequence numbers 0 and 1.
 fn shape() {
-    let mut image = [46u8; 513];
-    let mut marks = [7u8; 513];
-    let mut first = [0u8; 286];
-    make(
+    let mut first = [65u8; 286];
+    bytes::copy(
         &mut first,
         b"\x80\x00\x00\x00\x00\x00\x00\x00\x00\x00\x00\x00\x02\x01\x12\x00\x00\x02\x00\x12\x34\x00\x0c\x00\x0a\x03\x00\x12\x00\x0f",
-        65,
     );
-    let mut second = [0u8; 281];
-    make(
+    let mut second = [66u8; 281];
+    bytes::copy(
         &mut second,
         b"\x80\x00\x00\x01\x00\x00\x00\x00\x00\x00\x00\x00\x03\x01\x0d\x00\x00\x02\x00\x12\x34\x00\x00\x01\x00",
-        66,
     );
-    let r = call_store(fresh(), &first, &mut image, &mut marks, 256);
-    call_complete(r, &image, &marks);
-    let r = call_store(r, &second, &mut image, &mut marks, 256);
-    call_complete(r, &image, &marks);
+    let mut pointer = [0u8; pointer_layout::LENGTH];
+    let mut picture = [0u8; picture_layout::LENGTH];
+    cursor_calls::pointer_fresh(&mut pointer);
+    cursor_calls::picture_fresh(&mut picture);
+    let mut image = [46u8; 513];
+    let mut marks = [7u8; 513];
+    call_store(
+        &mut pointer,
+        &mut picture,
+        &first,
+        &mut image,
+        &mut marks,
+        256,
+    );
+    call_complete(&picture, &image, &marks);
+    call_store(
+        &mut pointer,
+        &mut picture,
+        &second,
+        &mut image,
+        &mut marks,
+        256,
+    );
+    call_complete(&picture, &image, &marks);
 }
 
-// Records, with a picture and marks of five places.
+// What a host keeps: both records, and a picture and marks of five places.
 struct Small {
-    records: Records,
+    pointer: [u8; pointer_layout::LENGTH],
+    picture: [u8; picture_layout::LENGTH],
     image: [u8; 5],
     marks: [u8; 5],
 }
 
 fn fresh_small() -> Small {
-    let records = fresh();
+    let mut pointer = [0u8; pointer_layout::LENGTH];
+    let mut picture = [0u8; picture_layout::LENGTH];
+    cursor_calls::pointer_fresh(&mut pointer);
+    cursor_calls::picture_fresh(&mut picture);
     Small {
-        records: records,
+        pointer,
+        picture,
         image: [46u8; 5],
         marks: [7u8; 5],
     }
 }
 
 fn small_store(small: Small, packet: &[u8]) -> Small {
-    let records = small.records;
+    let mut pointer = small.pointer;
+    let mut picture = small.picture;
     let mut image = small.image;
     let mut marks = small.marks;
-    let next = call_store(records, packet, &mut image, &mut marks, 2);
+    call_store(
+        &mut pointer,
+        &mut picture,
+        packet,
+        &mut image,
+        &mut marks,
+        2,
+    );
     Small {
-        records: next,
-        image: image,
-        marks: marks,
+        pointer,
+        picture,
+        image,
+        marks,
     }
 }
 
 fn small_complete(small: Small) {
-    let records = small.records;
+    let picture = small.picture;
     let image = small.image;
     let marks = small.marks;
-    call_complete(records, &image, &marks);
+    call_complete(&picture, &image, &marks);
 }
 
 // A picture of four bytes under id 9, opened by a continuation: in any order, repeated, with an older start, and refusals between.
@@ -374,9 +320,17 @@ fn another(small: Small) {
     let r = small_store(r, late);
     let mut short_image = [46u8; 1];
     let mut short_marks = [7u8; 1];
-    let records = r.records;
-    let refused = call_store(records, late, &mut short_image, &mut short_marks, 2);
-    call_complete(refused, &short_image, &short_marks);
+    let mut pointer = r.pointer;
+    let mut picture = r.picture;
+    call_store(
+        &mut pointer,
+        &mut picture,
+        late,
+        &mut short_image,
+        &mut short_marks,
+        2,
+    );
+    call_complete(&picture, &short_image, &short_marks);
 }
 
 fn orders() {
