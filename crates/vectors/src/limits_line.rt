@@ -1,45 +1,33 @@
 // The cursor limits values of 003 section 4: the line as printed, the same in the grammar of section 1.7 (50,001 is C351 hex), and `none`.
-use crate::print::number;
-use crate::print::text;
-use cursor_limits::value::Answer;
+use crate::refused;
 use cursor_limits::value::Limits;
 use cursor_limits::value::Value;
 use cursor_limits::value::Xor;
-use wire::status;
 
 fn supported(limits: Limits) {
     let xor = limits.xor;
     match xor {
-        Xor::None => text(b" xor none"),
-        Xor::Full => text(b" xor full"),
+        Xor::None => print::text(b" xor none"),
+        Xor::Full => print::text(b" xor full"),
     }
-    text(b" width ");
-    number(limits.width as u64);
-    text(b" height ");
-    number(limits.height as u64);
-    text(b" port ");
-    number(limits.port as u64);
-    text(b"\n");
+    print::field(b" width", limits.width as u64);
+    print::field(b" height", limits.height as u64);
+    print::field(b" port", limits.port as u64);
+    print::text(b"\n");
 }
 
-fn accepted(value: Value) {
+fn show(name: &[u8], text: &[u8]) {
+    print::text(name);
+    let mut record = [0u8; limits_layout::LENGTH];
+    let answer = limits_calls::read(text, &mut record);
+    if answer.status != 0 {
+        refused(answer);
+        return;
+    }
+    let value = limits_layout::read(&record);
     match value {
-        Value::NotSupported => text(b" not supported\n"),
+        Value::NotSupported => print::text(b" not supported\n"),
         Value::Supported(limits) => supported(limits),
-    }
-}
-
-fn show(name: &[u8], bytes: &[u8]) {
-    text(name);
-    match cursor_limits::read(bytes) {
-        Answer::Accepted(value) => accepted(value),
-        Answer::Refused { status, place } => {
-            text(b" refused ");
-            number(status::number(status) as u64);
-            text(b" place ");
-            number(place as u64);
-            text(b"\n");
-        }
     }
 }
 

@@ -8,7 +8,15 @@
 mod limits_line;
 mod messages;
 mod packets;
-mod print;
+
+use host_answers::Answer;
+
+// What a reader refuses.
+pub fn refused(answer: Answer) {
+    print::field(b" refused", answer.status as u64);
+    print::field(b" place", answer.place as u64);
+    print::text(b"\n");
+}
 
 fn main() {
     messages::run();

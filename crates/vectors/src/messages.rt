@@ -1,25 +1,15 @@
 // The messages of section 4 of 000 and 001, and P1 to P6 of 01.
-use crate::print::byte;
-use crate::print::number;
-use crate::print::text;
-use message_reader::Answer;
-use message_rules::accessors;
-use message_rules::record::Message;
-use message_writer::Written;
-use message_writer::write;
-use wire::status;
+use crate::refused;
+use scan::bytes;
+use wire::number;
 
-fn source(bytes: &[u8], message: Message) {
-    let id = accessors::source_id(bytes, message);
-    if id.present {
-        let digits = id.bytes;
-        let mut k = 0;
-        while k < 16 {
-            byte(digits[k]);
-            k += 1;
-        }
+fn source(bytes: &[u8], record: &[u8]) {
+    let mut id = [0u8; 16];
+    let found = message_calls::source_id(bytes, record, &mut id);
+    if found.yes {
+        print::hex(&id);
     } else {
-        text(b"-");
+        print::text(b"-");
     }
 }
 
@@ -31,46 +21,38 @@ fn begins(out: &[u8], n: usize, bytes: &[u8]) -> bool {
     check::same(&out[..n], bytes)
 }
 
-// Whether writing the record gives the bytes back.
-fn writes_back(bytes: &[u8], message: Message) -> bool {
+// Whether writing the record gives the bytes back; a refusal writes none.
+fn writes_back(bytes: &[u8], record: &[u8]) -> bool {
     let mut out = [0u8; 128];
-    match write(bytes, message, &mut out) {
-        Written::Wrote(n) => begins(&out, n, bytes),
-        Written::Refused {
-            status: _,
-            place: _,
-        } => false,
-    }
+    let written = message_calls::write(bytes, record, &mut out);
+    begins(&out, written.size, bytes)
 }
 
-fn accepted(bytes: &[u8], message: Message) {
-    text(b" accepted ");
-    number(message.command as u64);
-    text(b" port ");
-    number(accessors::rtsp_port(bytes, message) as u64);
-    text(b" options ");
-    number(accessors::security_options(bytes, message) as u64);
-    text(b" source ");
-    source(bytes, message);
-    if writes_back(bytes, message) {
-        text(b" written same\n");
+fn accepted(bytes: &[u8], record: &[u8]) {
+    let message = message_layout::read(record);
+    let port = message_calls::rtsp_port(bytes, record);
+    let options = message_calls::security_options(bytes, record);
+    print::field(b" accepted", message.command as u64);
+    print::field(b" port", port.value as u64);
+    print::field(b" options", options.value as u64);
+    print::text(b" source ");
+    source(bytes, record);
+    if writes_back(bytes, record) {
+        print::text(b" written same\n");
     } else {
-        text(b" written other\n");
+        print::text(b" written other\n");
     }
 }
 
 // A message under its name, in one line.
 fn show(name: &[u8], bytes: &[u8]) {
-    text(name);
-    match message_reader::read(bytes) {
-        Answer::Accepted(message) => accepted(bytes, message),
-        Answer::Refused { status, place } => {
-            text(b" refused ");
-            number(status::number(status) as u64);
-            text(b" place ");
-            number(place as u64);
-            text(b"\n");
-        }
+    print::text(name);
+    let mut record = [0u8; message_layout::LENGTH];
+    let answer = message_calls::read(bytes, &mut record);
+    if answer.status == 0 {
+        accepted(bytes, &record);
+    } else {
+        refused(answer);
     }
 }
 
@@ -101,26 +83,18 @@ pub fn run() {
           \x04\x00\x01\x16",
     );
     // Session Request: as printed, with Size 003A over 60 bytes, and with Size 003C.
-    show(
-        b"001-4.5-printed",
-        b"\x00\x3a\x01\x04\
+    let session_request = b"\x00\x3a\x01\x04\
           \x05\x00\x01\x03\
           \x00\x00\x1e\
           \x44\x00\x75\x00\x6d\x00\x6d\x00\x79\x00\x31\x00\x2d\x00\x4b\x00\
           \x61\x00\x62\x00\x79\x00\x6c\x00\x61\x00\x6b\x00\x65\x00\
           \x03\x00\x10\
-          \x91\xf4\xab\xe9\xef\xf5\x46\x4a\xae\xe2\x69\x72\x2a\xed\x11\xb5",
-    );
-    show(
-        b"001-4.5-size-003C",
-        b"\x00\x3c\x01\x04\
-          \x05\x00\x01\x03\
-          \x00\x00\x1e\
-          \x44\x00\x75\x00\x6d\x00\x6d\x00\x79\x00\x31\x00\x2d\x00\x4b\x00\
-          \x61\x00\x62\x00\x79\x00\x6c\x00\x61\x00\x6b\x00\x65\x00\
-          \x03\x00\x10\
-          \x91\xf4\xab\xe9\xef\xf5\x46\x4a\xae\xe2\x69\x72\x2a\xed\x11\xb5",
-    );
+          \x91\xf4\xab\xe9\xef\xf5\x46\x4a\xae\xe2\x69\x72\x2a\xed\x11\xb5";
+    show(b"001-4.5-printed", session_request);
+    let mut resized = [0u8; 60];
+    bytes::copy(&mut resized, session_request);
+    number::put_u8(&mut resized, 1, 0x3c);
+    show(b"001-4.5-size-003C", &resized);
     // PIN Challenge
     show(
         b"001-4.6",
@@ -140,29 +114,19 @@ pub fn run() {
           \xf3\xaf\xd8\x60\xa4\x5e\xf1\x37\xed\x25\x79\x15\xa8\xbb\x2d\xf7\
           \x07\x00\x01\x00",
     );
-    // 01, "Proved table of small examples"
-    show(
-        b"P1",
-        b"\x00\x21\x01\x01\
+    // 01, "Proved table of small examples": P2 is P1 with Size 0022, and P3 is P1 with a byte more.
+    let p1 = b"\x00\x21\x01\x01\
           \x00\x00\x02\x41\x00\
           \x02\x00\x02\x1c\x44\
-          \x03\x00\x10\x07\x07\x07\x07\x07\x07\x07\x07\x07\x07\x07\x07\x07\x07\x07\x07",
-    );
-    show(
-        b"P2",
-        b"\x00\x22\x01\x01\
-          \x00\x00\x02\x41\x00\
-          \x02\x00\x02\x1c\x44\
-          \x03\x00\x10\x07\x07\x07\x07\x07\x07\x07\x07\x07\x07\x07\x07\x07\x07\x07\x07",
-    );
-    show(
-        b"P3",
-        b"\x00\x21\x01\x01\
-          \x00\x00\x02\x41\x00\
-          \x02\x00\x02\x1c\x44\
-          \x03\x00\x10\x07\x07\x07\x07\x07\x07\x07\x07\x07\x07\x07\x07\x07\x07\x07\x07\
-          \x00",
-    );
+          \x03\x00\x10\x07\x07\x07\x07\x07\x07\x07\x07\x07\x07\x07\x07\x07\x07\x07\x07";
+    show(b"P1", p1);
+    let mut p2 = [0u8; 33];
+    bytes::copy(&mut p2, p1);
+    number::put_u8(&mut p2, 1, 0x22);
+    show(b"P2", &p2);
+    let mut p3 = [0u8; 34];
+    bytes::copy(&mut p3, p1);
+    show(b"P3", &p3);
     show(b"P4", b"");
     show(b"P5", b"\x00\x03\x01\x01");
     show(
