@@ -57,12 +57,15 @@ fn call_store(
     packet: &[u8],
     image: &mut [u8],
     marks: &mut [u8],
-    step: usize,
 ) {
     let answer = cursor_calls::store(pointer, picture, packet, image, marks);
     print::field(b"store", answer.status as u64);
     print_pointer(pointer);
     print_picture(picture);
+}
+
+// The five bytes of the picture and of the marks, which end the line of a store.
+fn print_bytes(image: &[u8], marks: &[u8], step: usize) {
     print::text(b" bytes");
     print_five(image, step);
     print::text(b" marks");
@@ -85,24 +88,16 @@ fn call_complete(picture: &[u8], image: &[u8], marks: &[u8]) {
 // P9, the same again, 32,767 ahead (with the position of 003 section 4), an older one, 65,535, 0 after it; then a start, a wrong size,
 // too few bytes twice, too many, and an SSRC that is not 0.
 fn positions() {
+    let p9 = b"\x80\x00\x00\x05\x00\x00\x00\x00\x00\x00\x00\x00\x01\x00\x07\xff\xfe\x00\x0a";
     let mut pointer = [0u8; pointer_layout::LENGTH];
     cursor_calls::pointer_fresh(&mut pointer);
-    call_position(
-        &mut pointer,
-        b"\x80\x00\x00\x05\x00\x00\x00\x00\x00\x00\x00\x00\x01\x00\x07\xff\xfe\x00\x0a",
-    );
-    call_position(
-        &mut pointer,
-        b"\x80\x00\x00\x05\x00\x00\x00\x00\x00\x00\x00\x00\x01\x00\x07\xff\xfe\x00\x0a",
-    );
+    call_position(&mut pointer, p9);
+    call_position(&mut pointer, p9);
     call_position(
         &mut pointer,
         b"\x80\x00\x80\x04\x00\x00\x00\x00\x00\x00\x00\x00\x01\x00\x07\x00\x0c\x00\x0a",
     );
-    call_position(
-        &mut pointer,
-        b"\x80\x00\x00\x05\x00\x00\x00\x00\x00\x00\x00\x00\x01\x00\x07\xff\xfe\x00\x0a",
-    );
+    call_position(&mut pointer, p9);
     call_position(
         &mut pointer,
         b"\x80\x00\xff\xff\x00\x00\x00\x00\x00\x00\x00\x00\x01\x00\x07\x00\x01\x00\x02",
@@ -145,14 +140,8 @@ fn offset_call(packet: &[u8]) {
     cursor_calls::picture_fresh(&mut picture);
     let mut image = [46u8; 9];
     let mut marks = [7u8; 9];
-    call_store(
-        &mut pointer,
-        &mut picture,
-        packet,
-        &mut image,
-        &mut marks,
-        4,
-    );
+    call_store(&mut pointer, &mut picture, packet, &mut image, &mut marks);
+    print_bytes(&image, &marks, 4);
 }
 
 fn offsets() {
@@ -185,23 +174,11 @@ fn shape() {
     cursor_calls::picture_fresh(&mut picture);
     let mut image = [46u8; 513];
     let mut marks = [7u8; 513];
-    call_store(
-        &mut pointer,
-        &mut picture,
-        &first,
-        &mut image,
-        &mut marks,
-        256,
-    );
+    call_store(&mut pointer, &mut picture, &first, &mut image, &mut marks);
+    print_bytes(&image, &marks, 256);
     call_complete(&picture, &image, &marks);
-    call_store(
-        &mut pointer,
-        &mut picture,
-        &second,
-        &mut image,
-        &mut marks,
-        256,
-    );
+    call_store(&mut pointer, &mut picture, &second, &mut image, &mut marks);
+    print_bytes(&image, &marks, 256);
     call_complete(&picture, &image, &marks);
 }
 
@@ -231,14 +208,8 @@ fn small_store(small: Small, packet: &[u8]) -> Small {
     let mut picture = small.picture;
     let mut image = small.image;
     let mut marks = small.marks;
-    call_store(
-        &mut pointer,
-        &mut picture,
-        packet,
-        &mut image,
-        &mut marks,
-        2,
-    );
+    call_store(&mut pointer, &mut picture, packet, &mut image, &mut marks);
+    print_bytes(&image, &marks, 2);
     Small {
         pointer,
         picture,
@@ -256,20 +227,16 @@ fn small_complete(small: Small) {
 
 // A picture of four bytes under id 9, opened by a continuation: in any order, repeated, with an older start, and refusals between.
 fn in_order(small: Small) -> Small {
+    let middle =
+        b"\x80\x00\x00\x1f\x00\x00\x00\x00\x00\x00\x00\x00\x03\x00\x0f\x00\x00\x00\x04\x00\x09\x00\x00\x00\x01\x42\x43";
     small_complete(small);
-    let r = small_store(
-        small,
-        b"\x80\x00\x00\x1f\x00\x00\x00\x00\x00\x00\x00\x00\x03\x00\x0f\x00\x00\x00\x04\x00\x09\x00\x00\x00\x01\x42\x43",
-    );
+    let r = small_store(small, middle);
     small_complete(r);
     let r = small_store(
         r,
         b"\x80\x00\x00\x20\x00\x00\x00\x00\x00\x00\x00\x00\x03\x00\x0e\x00\x00\x00\x04\x00\x09\x00\x00\x00\x03\x44",
     );
-    let r = small_store(
-        r,
-        b"\x80\x00\x00\x1f\x00\x00\x00\x00\x00\x00\x00\x00\x03\x00\x0f\x00\x00\x00\x04\x00\x09\x00\x00\x00\x01\x42\x43",
-    );
+    let r = small_store(r, middle);
     let r = small_store(r, b"");
     small_complete(r);
     let r = small_store(
@@ -318,19 +285,13 @@ fn another(small: Small) {
     let late =
         b"\x80\x00\x00\x1f\x00\x00\x00\x00\x00\x00\x00\x00\x03\x00\x0f\x00\x00\x00\x04\x00\x09\x00\x00\x00\x01\x42\x43";
     let r = small_store(r, late);
-    let mut short_image = [46u8; 1];
-    let mut short_marks = [7u8; 1];
+    let mut image = [46u8; 1];
+    let mut marks = [7u8; 1];
     let mut pointer = r.pointer;
     let mut picture = r.picture;
-    call_store(
-        &mut pointer,
-        &mut picture,
-        late,
-        &mut short_image,
-        &mut short_marks,
-        2,
-    );
-    call_complete(&picture, &short_image, &short_marks);
+    call_store(&mut pointer, &mut picture, late, &mut image, &mut marks);
+    print_bytes(&image, &marks, 2);
+    call_complete(&picture, &image, &marks);
 }
 
 fn orders() {
