@@ -28,7 +28,6 @@ fn refused(status: u8) {
 }
 
 fn position(pointer: &mut [u8], packet: &[u8]) {
-    print::text(b"003-4-position");
     let answer = cursor_calls::position(pointer, packet);
     if answer.status != 0 {
         refused(answer.status);
@@ -51,14 +50,12 @@ fn show_complete(picture: &[u8], image: &[u8], marks: &[u8]) {
 }
 
 fn store(
-    name: &[u8],
     pointer: &mut [u8],
     picture: &mut [u8],
     packet: &[u8],
     image: &mut [u8],
     marks: &mut [u8],
 ) {
-    print::text(name);
     let answer = cursor_calls::store(pointer, picture, packet, image, marks);
     if answer.status != 0 {
         refused(answer.status);
@@ -78,6 +75,7 @@ pub fn run() {
     cursor_calls::picture_fresh(&mut picture);
     let mut image = [0u8; 512];
     let mut marks = [0u8; 512];
+    print::text(b"003-4-position");
     position(
         &mut pointer,
         b"\x80\x00\x00\x00\x00\x00\x00\x00\x00\x00\x00\x00\x01\x00\x07\x00\x0c\x00\x0a",
@@ -87,25 +85,13 @@ pub fn run() {
         &mut first,
         b"\x80\x00\x00\x01\x00\x00\x00\x00\x00\x00\x00\x00\x02\x01\x12\x00\x00\x02\x00\x12\x34\x00\x0c\x00\x0a\x03\x00\x12\x00\x0f",
     );
-    store(
-        b"003-4-start",
-        &mut pointer,
-        &mut picture,
-        &first,
-        &mut image,
-        &mut marks,
-    );
+    print::text(b"003-4-start");
+    store(&mut pointer, &mut picture, &first, &mut image, &mut marks);
     let mut second = [66u8; 281];
     bytes::copy(
         &mut second,
         b"\x80\x00\x00\x02\x00\x00\x00\x00\x00\x00\x00\x00\x03\x01\x0d\x00\x00\x02\x00\x12\x34\x00\x00\x01\x00",
     );
-    store(
-        b"003-4-continuation",
-        &mut pointer,
-        &mut picture,
-        &second,
-        &mut image,
-        &mut marks,
-    );
+    print::text(b"003-4-continuation");
+    store(&mut pointer, &mut picture, &second, &mut image, &mut marks);
 }
