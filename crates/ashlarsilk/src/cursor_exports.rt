@@ -4,8 +4,8 @@ ghost use lib.ListN.{length};
 ghost use Rattle.cursor_pointer.specs.Pointer.{freshPointer};
 ghost use Rattle.cursor_picture.specs.Picture.{freshPicture};
 ghost use Rattle.wire.specs.Laid.{laid};
-ghost use Rattle.cursor_layout.specs.PointerLayout.{pointerBytes};
-ghost use Rattle.cursor_layout.specs.PictureLayout.{pictureBytes};
+ghost use Rattle.cursor_layout.specs.PointerLayout.{pointerLength, pointerBytes};
+ghost use Rattle.cursor_layout.specs.PictureLayout.{pictureLength, pictureBytes};
 ghost use Rattle.host_answers.specs.Fresh.{freshAnswer};
 ghost use Rattle.cursor_calls.specs.CursorCalls.{afterPosition, cursorPosition, afterStore, cursorStore, cursorComplete};
 use host_answers::Answer;
@@ -14,7 +14,7 @@ use host_answers::Yes;
 // Writes that no position is known. Answers 0, or 10 where the pointer's record has fewer than 7 bytes, which then stay as they are.
 #[no_mangle]
 pub extern "C" fn ashlarsilk_pointer_fresh(pointer: &mut [u8]) -> u8
-    ensures answer { λ r. ⌜ r ≡ freshAnswer 7 (length (now (pointer .entry))) ⌝ }
+    ensures answer { λ r. ⌜ r ≡ freshAnswer pointerLength (length (now (pointer .entry))) ⌝ }
     ensures bytes { λ _. ⌜ now (pointer .exit) ≡ laid (pointerBytes freshPointer) (now (pointer .entry)) ⌝ }
 {
     cursor_calls::pointer_fresh(pointer)
@@ -23,7 +23,7 @@ pub extern "C" fn ashlarsilk_pointer_fresh(pointer: &mut [u8]) -> u8
 // Writes that no picture is opened. Answers 0, or 10 where the picture's record has fewer than 15 bytes, which then stay as they are.
 #[no_mangle]
 pub extern "C" fn ashlarsilk_picture_fresh(picture: &mut [u8]) -> u8
-    ensures answer { λ r. ⌜ r ≡ freshAnswer 15 (length (now (picture .entry))) ⌝ }
+    ensures answer { λ r. ⌜ r ≡ freshAnswer pictureLength (length (now (picture .entry))) ⌝ }
     ensures bytes { λ _. ⌜ now (picture .exit) ≡ laid (pictureBytes freshPicture) (now (picture .entry)) ⌝ }
 {
     cursor_calls::picture_fresh(picture)

@@ -15,11 +15,11 @@ use Rattle.cursor_picture.specs.declared.completeness.CompleteAnswer.the-varian
 use Rattle.cursor_picture.specs.Completeness.{completeness}
 use Rattle.cursor_store.specs.declared.storing.StoreAnswer.{StoreAnswer}
 use Rattle.cursor_store.specs.declared.storing.StoreAnswer.the-variants as store
-use Rattle.cursor_store.specs.Storing as storing
+use Rattle.cursor_store.specs.Assembling.{Outcome}
 use Rattle.cursor_store.specs.Storing.{stored}
 use Rattle.wire.specs.Laid.{laid}
-use Rattle.cursor_layout.specs.PointerLayout.{pointerBytes, pointerOf}
-use Rattle.cursor_layout.specs.PictureLayout.{pictureBytes, pictureOf}
+use Rattle.cursor_layout.specs.PointerLayout.{pointerLength, pointerBytes, pointerOf}
+use Rattle.cursor_layout.specs.PictureLayout.{pictureLength, pictureBytes, pictureOf}
 use Rattle.host_answers.specs.declared.Answer.{Answer}
 use Rattle.host_answers.specs.declared.Yes.{Yes}
 use Rattle.host_answers.specs.Answers.{accepted, refused, short}
@@ -27,51 +27,53 @@ use Rattle.host_answers.specs.Answers.{accepted, refused, short}
 -- The call for positions.
 
 -- an answer, with what the lent pointer then holds
-pub record Positioned : Type 0 where
+pub record PositionDone : Type 0 where
   pub answer : Answer
   pub pointer : List ℕ
 
-abbrev pub afterPosition : Answer → List ℕ → Positioned
+abbrev pub afterPosition : Answer → List ℕ → PositionDone
 afterPosition r ps = record { answer = r; pointer = ps }
 
 -- the pointer as the packet sets it goes into the record ps; a refusal changes nothing
-abbrev pub positionLeft : PointerAnswer → List ℕ → Positioned
-positionLeft (position.Accepted p) ps = afterPosition accepted (laid (pointerBytes p) ps)
-positionLeft (position.Refused s place) ps = afterPosition (refused s place) ps
+abbrev pub positionAnswered : PointerAnswer → List ℕ → PositionDone
+positionAnswered (position.Accepted p) ps = afterPosition accepted (laid (pointerBytes p) ps)
+positionAnswered (position.Refused s place) ps = afterPosition (refused s place) ps
 
-unfoldable pub cursorPosition : List ℕ → List ℕ → Positioned
-cursorPosition ps packet = cond (leb 7 (length ps)) (positionLeft (positioned (pointerOf ps) packet) ps) (afterPosition short ps)
+unfoldable pub cursorPosition : List ℕ → List ℕ → PositionDone
+cursorPosition ps packet =
+    cond (leb pointerLength (length ps)) (positionAnswered (positioned (pointerOf ps) packet) ps) (afterPosition short ps)
 
 -- The call for starts and continuations.
 
--- the pointer's record has its 7 bytes, and the picture's its 15
+-- each record has all of its bytes
 unfoldable pub recordsWhole : ℕ → ℕ → Bool
-recordsWhole pointer picture = leb 7 pointer && leb 15 picture
+recordsWhole pointer picture = leb pointerLength pointer && leb pictureLength picture
 
 -- an answer, with what the four lent slices then hold
-pub record Stored : Type 0 where
+pub record StoreDone : Type 0 where
   pub answer : Answer
   pub pointer : List ℕ
   pub picture : List ℕ
   pub image : List ℕ
   pub marks : List ℕ
 
-abbrev pub afterStore : Answer → List ℕ → List ℕ → List ℕ → List ℕ → Stored
+abbrev pub afterStore : Answer → List ℕ → List ℕ → List ℕ → List ℕ → StoreDone
 afterStore r ps qs image marks = record { answer = r; pointer = ps; picture = qs; image = image; marks = marks }
 
 -- the records as the fragment leaves them go into the records ps and qs; a refusal changes neither
-abbrev pub storeLeft : StoreAnswer → List ℕ → List ℕ → List ℕ → List ℕ → Stored
-storeLeft (store.Accepted q p) ps qs image marks = afterStore accepted (laid (pointerBytes p) ps) (laid (pictureBytes q) qs) image marks
-storeLeft (store.Refused s place) ps qs image marks = afterStore (refused s place) ps qs image marks
+abbrev pub storeAnswered : StoreAnswer → List ℕ → List ℕ → List ℕ → List ℕ → StoreDone
+storeAnswered (store.Accepted x) ps qs image marks =
+    afterStore accepted (laid (pointerBytes (x .pointer)) ps) (laid (pictureBytes (x .picture)) qs) image marks
+storeAnswered (store.Refused s place) ps qs image marks = afterStore (refused s place) ps qs image marks
 
 -- with the image and the marks as the call leaves them
-abbrev pub allLeft : storing.StoreResult → List ℕ → List ℕ → Stored
-allLeft a ps qs = storeLeft (a .answer) ps qs (a .image) (a .marks)
+abbrev pub allAnswered : Outcome StoreAnswer → List ℕ → List ℕ → StoreDone
+allAnswered a ps qs = storeAnswered (a .answer) ps qs (a .image) (a .marks)
 
-unfoldable pub cursorStore : List ℕ → List ℕ → List ℕ → List ℕ → List ℕ → Stored
+unfoldable pub cursorStore : List ℕ → List ℕ → List ℕ → List ℕ → List ℕ → StoreDone
 cursorStore ps qs packet image marks =
     cond (recordsWhole (length ps) (length qs))
-    (allLeft (stored (pointerOf ps) (pictureOf qs) packet image marks) ps qs)
+    (allAnswered (stored (pointerOf ps) (pictureOf qs) packet image marks) ps qs)
     (afterStore short ps qs image marks)
 
 -- The completeness question: a refusal by its number.
@@ -83,7 +85,7 @@ yesOrNo (complete.Refused s place) = record { status = numberOf s; yes = false }
 
 unfoldable pub cursorComplete : List ℕ → List ℕ → List ℕ → Yes
 cursorComplete qs image marks =
-    cond (leb 15 (length qs))
+    cond (leb pictureLength (length qs))
     (yesOrNo (completeness (pictureOf qs) (length image) marks))
     (record { status = numberOf status.NoRoom; yes = false })
 

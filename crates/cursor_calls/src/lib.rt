@@ -4,8 +4,8 @@ ghost use lib.ListN.{length};
 ghost use Rattle.cursor_pointer.specs.Pointer.{freshPointer};
 ghost use Rattle.cursor_picture.specs.Picture.{freshPicture};
 ghost use Rattle.wire.specs.Laid.{laid};
-ghost use Rattle.cursor_layout.specs.PointerLayout.{pointerBytes};
-ghost use Rattle.cursor_layout.specs.PictureLayout.{pictureBytes};
+ghost use Rattle.cursor_layout.specs.PointerLayout.{pointerLength, pointerBytes};
+ghost use Rattle.cursor_layout.specs.PictureLayout.{pictureLength, pictureBytes};
 ghost use Rattle.host_answers.specs.Fresh.{freshAnswer};
 ghost use Rattle.cursor_calls.specs.CursorCalls.{afterPosition, cursorPosition, recordsWhole, afterStore, cursorStore, yesOrNo, cursorComplete};
 use cursor_layout::picture_layout;
@@ -23,7 +23,7 @@ use wire::status::Status;
 
 // Writes that no position is known.
 pub fn pointer_fresh(pointer: &mut [u8]) -> u8
-    ensures answer { λ r. ⌜ r ≡ freshAnswer 7 (length (now (pointer .entry))) ⌝ }
+    ensures answer { λ r. ⌜ r ≡ freshAnswer pointerLength (length (now (pointer .entry))) ⌝ }
     ensures bytes { λ _. ⌜ now (pointer .exit) ≡ laid (pointerBytes freshPointer) (now (pointer .entry)) ⌝ }
 {
     pointer_layout::write(pointer, Pointer::fresh());
@@ -32,7 +32,7 @@ pub fn pointer_fresh(pointer: &mut [u8]) -> u8
 
 // Writes that no picture is opened.
 pub fn picture_fresh(picture: &mut [u8]) -> u8
-    ensures answer { λ r. ⌜ r ≡ freshAnswer 15 (length (now (picture .entry))) ⌝ }
+    ensures answer { λ r. ⌜ r ≡ freshAnswer pictureLength (length (now (picture .entry))) ⌝ }
     ensures bytes { λ _. ⌜ now (picture .exit) ≡ laid (pictureBytes freshPicture) (now (picture .entry)) ⌝ }
 {
     picture_layout::write(picture, Picture::fresh());

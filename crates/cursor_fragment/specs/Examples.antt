@@ -10,11 +10,11 @@ use Rattle.wire.specs.declared.status.Status.the-variants as status
 use Rattle.wire.specs.Checks.{firstOf}
 use Rattle.cursor_packet.specs.Rtp.{unusedZero, rtpHolds}
 use Rattle.cursor_packet.specs.Frame.{frameChecks}
+use Rattle.cursor_packet.specs.Position.{positionAt}
 use Rattle.cursor_packet.specs.Examples.{rtp}
 use Rattle.cursor_fragment.specs.declared.FragmentAnswer.the-variants as fragment
-use Rattle.cursor_fragment.specs.Fragment.{takesType, headerLength, imageData, offsetOf, outside, fragmentFrame, fragmentChecks, startFragment, fragmentOf, fragmentStatus, dataOf, readFragment}
-use Rattle.cursor_fragment.specs.Continuation.{continuationOf}
-use Rattle.cursor_fragment.specs.Start.{startOf}
+use Rattle.cursor_fragment.specs.Fragment.{takesType, headerLength, imageData, offsetBits, placeOf, outside, fragmentFrame, fragmentChecks, fragmentAs, fragmentStatus, dataOf, readFragment}
+use Rattle.cursor_fragment.specs.Start.{startOf, startIn, startPosition}
 
 -- P10: total 8: offset 8 with no data fits; offset 7 with two bytes is 9; offset FFFFFFFF hex is 9
 abbrev pub eight : ℕ → List ℕ → List ℕ
@@ -24,7 +24,7 @@ pub p10
     : (fragmentStatus (eight 13 (0 ∷ 0 ∷ 0 ∷ 8 ∷ [])) ≡ status.Accepted)
     × (fragmentStatus (eight 15 (0 ∷ 0 ∷ 0 ∷ 7 ∷ 65 ∷ 66 ∷ [])) ≡ status.OutsideImage)
     × (fragmentStatus (eight 13 (0xff ∷ 0xff ∷ 0xff ∷ 0xff ∷ [])) ≡ status.OutsideImage)
-unfolding fragmentFrame fragmentChecks firstOf frameChecks rtpHolds unusedZero number signed takesType headerLength imageData continuationOf offsetOf outside
+unfolding fragmentFrame fragmentChecks firstOf frameChecks rtpHolds unusedZero number signed takesType headerLength imageData offsetBits outside
 p10 = (refl, refl, refl)
 
 -- a start: total 4, id 9, position −2, 10, image type 3, hot spot 1, 2, two bytes of data
@@ -40,12 +40,14 @@ pub start-read
       id = 9;
       offset = 0;
       starts = true;
-      x = negsuc 1;
-      y = pos 10;
       start = record { «image_type» = 3; «hot_x» = 1; «hot_y» = 2 };
     })
-unfolding readFragment fragmentOf startFragment startOf fragmentFrame fragmentChecks firstOf frameChecks rtpHolds unusedZero number signed takesType headerLength imageData continuationOf offsetOf outside
+unfolding readFragment fragmentAs startIn startOf placeOf fragmentFrame fragmentChecks firstOf frameChecks rtpHolds unusedZero number signed takesType headerLength imageData offsetBits outside
 start-read = refl
+
+pub start-moves-to : startPosition start ≡ record { sequence = 5; x = negsuc 1; y = pos 10 }
+unfolding positionAt number signed
+start-moves-to = refl
 
 pub start-data : dataOf start ≡ 65 ∷ 66 ∷ []
 unfolding imageData headerLength number
@@ -59,5 +61,5 @@ pub in-order
     × (fragmentStatus (rtp 5 ++ (1 ∷ 0 ∷ 0 ∷ [])) ≡ status.UnknownKind)
     × (fragmentStatus (rtp 5 ++ (3 ∷ 0 ∷ 12 ∷ [])) ≡ status.WrongSize)
     × (fragmentStatus (rtp 5 ++ (3 ∷ 0 ∷ 13 ∷ [])) ≡ status.Truncated)
-unfolding fragmentFrame fragmentChecks firstOf frameChecks rtpHolds unusedZero number signed takesType headerLength imageData continuationOf offsetOf outside
+unfolding fragmentFrame fragmentChecks firstOf frameChecks rtpHolds unusedZero number signed takesType headerLength imageData offsetBits outside
 in-order = (refl, refl, refl, refl, refl)

@@ -14,9 +14,8 @@ use Rattle.cursor_fragment.specs.declared.Fragment.{Fragment}
 use Rattle.cursor_fragment.specs.declared.FragmentAnswer.{FragmentAnswer}
 use Rattle.cursor_fragment.specs.declared.FragmentAnswer.the-variants.{Accepted, Refused}
 use Rattle.wire.specs.Checks.{Check, refuse, firstOf, accepted}
-use Rattle.cursor_fragment.specs.Continuation.{continuationOf, placeOf}
 use Rattle.cursor_packet.specs.Frame.{typeOf, sizeOf, frameChecks}
-use Rattle.cursor_fragment.specs.Start.{startOf, noStart}
+use Rattle.cursor_fragment.specs.Start.{startIn}
 
 -- the call for starts and continuations takes types 2 and 3 only
 unfoldable pub takesType : ℕ → Bool
@@ -32,52 +31,50 @@ headerLength starts = cond starts 18 13
 unfoldable pub imageData : Bool → List ℕ → List ℕ
 imageData starts p = drop (12 + headerLength starts) p
 
--- a start's data stand at offset 0
-unfoldable pub offsetOf : Bool → List ℕ → ℤ
-offsetOf starts p = cond starts (pos 0) (continuationOf p .offset)
+-- the offset's four bytes as a number; a start has none, and its data stand at offset 0
+unfoldable pub offsetBits : Bool → List ℕ → ℕ
+offsetBits starts p = cond starts 0 (number 4 p 21)
+
+-- the offset is two's complement ("offset (4, signed)")
+abbrev pub offsetOf : Bool → List ℕ → ℤ
+offsetOf starts p = signed 4 (offsetBits starts p)
+
+-- the place that an offset names; 0 for a negative one, which check 9 refuses
+unfoldable pub placeOf : ℤ → ℕ
+placeOf (pos offset) = offset
+placeOf (negsuc k) = 0
 
 -- refusal 9: negative offset, or offset plus data beyond the total
 unfoldable pub outside : ℤ → ℕ → ℕ → Bool
 outside (pos offset) size total = ltb total (offset + size)
 outside (negsuc k) size total = true
 
+abbrev pub isOutside : Bool → List ℕ → Bool
+isOutside starts p = outside (offsetOf starts p) (length (imageData starts p)) (number 4 p 15)
+
 -- the checks of the call for starts and continuations on the packet alone, in their order
+abbrev pub sizeFits : Bool → List ℕ → Bool
+sizeFits starts p = leb (headerLength starts) (sizeOf p)
+
 unfoldable pub fragmentFrame : Bool → List ℕ → List Check
-fragmentFrame starts p = frameChecks (takesType (typeOf p)) (leb (headerLength starts) (sizeOf p)) p
+fragmentFrame starts p = frameChecks (takesType (typeOf p)) (sizeFits starts p) p
 
 unfoldable pub fragmentChecks : Bool → List ℕ → List Check
-fragmentChecks starts p =
-    fragmentFrame starts p
-    ++ (refuse status.OutsideImage (outside (offsetOf starts p) (length (imageData starts p)) (number 4 p 15)) ∷ [])
+fragmentChecks starts p = fragmentFrame starts p ++ (refuse status.OutsideImage (isOutside starts p) ∷ [])
 
--- the fields of a start
-unfoldable pub startFragment : List ℕ → Fragment
-startFragment p = record {
+-- the fields of a start or of a continuation; a start's position is the pointer's and none of them
+unfoldable pub fragmentAs : Bool → List ℕ → Fragment
+fragmentAs starts p = record {
   sequence = number 2 p 2;
   total = number 4 p 15;
   id = number 2 p 19;
-  offset = 0;
-  starts = true;
-  x = signed 2 (number 2 p 21);
-  y = signed 2 (number 2 p 23);
-  start = startOf p;
+  offset = placeOf (offsetOf starts p);
+  starts = starts;
+  start = startIn starts p;
 }
 
--- the fields of a continuation; it has no position and no start fields
-unfoldable pub continuationFragment : List ℕ → Fragment
-continuationFragment p = record {
-  sequence = number 2 p 2;
-  total = number 4 p 15;
-  id = number 2 p 19;
-  offset = placeOf (continuationOf p .offset);
-  starts = false;
-  x = pos 0;
-  y = pos 0;
-  start = noStart;
-}
-
-unfoldable pub fragmentOf : List ℕ → Fragment
-fragmentOf p = cond (isStart p) (startFragment p) (continuationFragment p)
+abbrev pub fragmentOf : List ℕ → Fragment
+fragmentOf p = fragmentAs (isStart p) p
 
 abbrev pub fragmentStatus : List ℕ → Status
 fragmentStatus p = firstOf (fragmentChecks (isStart p) p)

@@ -1,4 +1,3 @@
-pub mod Continuation
 pub mod Examples
 pub mod Fragment
 pub mod Parsing

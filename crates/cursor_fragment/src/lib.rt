@@ -10,7 +10,6 @@
 //      26      2  HotSpotXPos
 //      28      2  HotSpotYPos
 //      30         ImageData, at offset 0
-pub mod continuation;
 pub mod start;
 
 ghost use mathlib.Core.Path.{_≡_};
@@ -18,11 +17,9 @@ ghost use Prim.Native.Nat.{min};
 ghost use Rattle.wire.specs.Number.{number};
 ghost use Rattle.wire.specs.Signed.{signed};
 ghost use Rattle.wire.specs.Checks.{firstOf};
-ghost use Rattle.cursor_fragment.specs.Continuation.{continuationOf, placeOf};
-ghost use mathlib.Core.Bool.{true, false};
-ghost use Rattle.cursor_fragment.specs.Fragment.{isStart, headerLength, imageData, outside, startFragment, continuationFragment, readFragment};
+ghost use Rattle.cursor_packet.specs.Frame.{typeOf};
+ghost use Rattle.cursor_fragment.specs.Fragment.{takesType, isStart, headerLength, imageData, offsetBits, offsetOf, placeOf, outside, fragmentAs, readFragment};
 ghost use Rattle.cursor_fragment.specs.Parsing.{bodyChecks, noFragment, refusedAs, parsedAs, parsed};
-use continuation::Continuation;
 use cursor_packet::frame;
 use cursor_packet::rtp;
 use cursor_packet::rtp::Rtp;
@@ -31,15 +28,18 @@ use wire::number;
 use wire::status;
 use wire::status::Status;
 
-// A start or a continuation, but for its data. A start stands at offset 0; a continuation has position 0, 0 and start fields 0.
+// A continuation's type, and its least PacketMsgSize: all but the data.
+const CONTINUATION: u8 = 3;
+const CONTINUATION_HEADER: usize = 13;
+
+// A start or a continuation, but for its data and a start's position, which is the pointer's. A start stands at offset 0; a continuation has
+// start fields 0.
 pub struct Fragment {
     pub sequence: u16,
     pub total: u32,
     pub id: u16,
     pub offset: u32,
     pub starts: bool,
-    pub x: i16,
-    pub y: i16,
     pub start: Start,
 }
 
@@ -62,13 +62,24 @@ pub fn is_start(packet: &[u8]) -> bool
     number::u8_at(packet, 12) == Start::TYPE
 }
 
+// Whether a packet's type is that of a start or of a continuation.
+fn is_taken(packet: &[u8]) -> bool
+    ensures { λ r. ⌜ r ≡ takesType (typeOf (now (packet .entry))) ⌝ }
+{
+    let kind = number::u8_at(packet, 12);
+    if kind == Start::TYPE {
+        return true;
+    }
+    kind == CONTINUATION
+}
+
 fn header(starts: bool) -> usize
     ensures { λ r. ⌜ r ≡ headerLength starts ⌝ }
 {
     if starts {
         Start::HEADER
     } else {
-        Continuation::HEADER
+        CONTINUATION_HEADER
     }
 }
 
@@ -103,41 +114,30 @@ fn is_outside(place: u32, length: usize, total: u32) -> bool
     least(end - length, 2147483647) < place as usize
 }
 
-// The fields of a start whose total has been read.
-fn start_fragment(packet: &[u8], total: u32) -> Fragment
-    requires { ⌜ total ≡ number 4 (now packet) 15 ⌝ }
-    ensures { λ r. ⌜ r ≡ startFragment (now (packet .entry)) ⌝ }
+// The offset's four bytes as a number: 0 for a start.
+fn offset_bits(packet: &[u8], starts: bool) -> u32
+    ensures { λ r. ⌜ r ≡ offsetBits starts (now (packet .entry)) ⌝ }
 {
-    let position = start::position(packet);
-    let own = start::read(packet);
-    Fragment {
-        sequence: position.sequence,
-        total: total,
-        id: number::u16_at(packet, 19),
-        offset: 0,
-        starts: true,
-        x: position.x,
-        y: position.y,
-        start: own,
+    if starts {
+        return 0;
     }
+    number::u32_at(packet, 21)
 }
 
-// The fields of a continuation whose total and offset have been read.
-fn continuation_fragment(packet: &[u8], total: u32, place: u32) -> Fragment
-    requires { ⌜ (total ≡ number 4 (now packet) 15) × (place ≡ placeOf (continuationOf (now packet) .offset)) ⌝ }
-    ensures { λ r. ⌜ r ≡ continuationFragment (now (packet .entry)) ⌝ }
+// The fields of a fragment whose total and offset have been read.
+fn fields(packet: &[u8], starts: bool, total: u32, place: u32) -> Fragment
+    requires { ⌜ (total ≡ number 4 (now packet) 15) × (place ≡ placeOf (offsetOf starts (now packet))) ⌝ }
+    ensures { λ r. ⌜ r ≡ fragmentAs starts (now (packet .entry)) ⌝ }
 {
     let rtp = rtp::read(packet);
-    let none = Start::none();
+    let own = start::read(packet, starts);
     Fragment {
         sequence: rtp.sequence,
         total: total,
         id: number::u16_at(packet, 19),
         offset: place,
-        starts: false,
-        x: 0,
-        y: 0,
-        start: none,
+        starts: starts,
+        start: own,
     }
 }
 
@@ -152,8 +152,6 @@ fn no_fragment() -> Fragment
         id: 0,
         offset: 0,
         starts: false,
-        x: 0,
-        y: 0,
         start: none,
     }
 }
@@ -167,13 +165,14 @@ fn refused(status: Status) -> Parsed
     }
 }
 
-// A start after its header and type: PacketMsgSize below 18, 2; too few bytes 1; too many 2; data beyond the total 9. The total is read once,
-// for the check and for the fragment.
-fn parse_start(packet: &[u8]) -> Parsed
-    ensures { λ r. ⌜ r ≡ parsedAs (firstOf (bodyChecks true (now (packet .entry)))) (startFragment (now (packet .entry))) ⌝ }
+// A fragment after its header and type: PacketMsgSize below 18 for a start, below 13 for a continuation, 2; too few bytes 1; too many 2; negative
+// offset, or offset plus data beyond the total, 9. Total and offset are read once, for the check and for the fragment.
+fn parse_body(packet: &[u8], starts: bool) -> Parsed
+    ensures { λ r. ⌜ r ≡ parsedAs (firstOf (bodyChecks starts (now (packet .entry)))) (fragmentAs starts (now (packet .entry))) ⌝ }
 {
     let size = number::u16_at(packet, 13) as usize;
-    if size < Start::HEADER {
+    let least = header(starts);
+    if size < least {
         return refused(Status::WrongSize);
     }
     let end = Rtp::HEADER + size;
@@ -184,40 +183,13 @@ fn parse_start(packet: &[u8]) -> Parsed
         return refused(Status::WrongSize);
     }
     let total = number::u32_at(packet, 15);
-    let limit = total as usize;
-    if limit < size - Start::HEADER {
+    let place = offset_bits(packet, starts);
+    if is_outside(place, size - least, total) {
         return refused(Status::OutsideImage);
     }
     Parsed {
         status: Status::Accepted,
-        fragment: start_fragment(packet, total),
-    }
-}
-
-// A continuation after its header and type: PacketMsgSize below 13, 2; too few bytes 1; too many 2; negative offset, or offset plus data
-// beyond the total, 9. Total and offset are read once, for the check and for the fragment.
-fn parse_continuation(packet: &[u8]) -> Parsed
-    ensures { λ r. ⌜ r ≡ parsedAs (firstOf (bodyChecks false (now (packet .entry)))) (continuationFragment (now (packet .entry))) ⌝ }
-{
-    let size = number::u16_at(packet, 13) as usize;
-    if size < Continuation::HEADER {
-        return refused(Status::WrongSize);
-    }
-    let end = Rtp::HEADER + size;
-    if packet.len() < end {
-        return refused(Status::Truncated);
-    }
-    if end < packet.len() {
-        return refused(Status::WrongSize);
-    }
-    let total = number::u32_at(packet, 15);
-    let place = number::u32_at(packet, 21);
-    if is_outside(place, size - Continuation::HEADER, total) {
-        return refused(Status::OutsideImage);
-    }
-    Parsed {
-        status: Status::Accepted,
-        fragment: continuation_fragment(packet, total, place),
+        fragment: fields(packet, starts, total, place),
     }
 }
 
@@ -232,11 +204,10 @@ pub fn parse(packet: &[u8]) -> Parsed
     if !rtp::holds(packet) {
         return refused(Status::WrongHeader);
     }
-    match number::u8_at(packet, 12) {
-        Start::TYPE => parse_start(packet),
-        Continuation::TYPE => parse_continuation(packet),
-        _ => refused(Status::UnknownKind),
+    if !is_taken(packet) {
+        return refused(Status::UnknownKind);
     }
+    parse_body(packet, is_start(packet))
 }
 
 // The start or continuation, or its refusal.

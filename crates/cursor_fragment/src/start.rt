@@ -7,11 +7,10 @@
 //      26      2  HotSpotXPos
 //      28      2  HotSpotYPos
 ghost use mathlib.Core.Path.{_≡_};
-ghost use Rattle.cursor_fragment.specs.Start.{noStart, startOf, startPosition};
+ghost use Rattle.cursor_fragment.specs.Start.{noStart, startIn, startPosition};
+use cursor_packet::position;
 use cursor_packet::position::Position;
-use cursor_packet::rtp;
 use wire::number;
-use wire::signed;
 
 // A start's own fields, which its position is not among.
 pub struct Start {
@@ -36,10 +35,13 @@ impl Start {
     }
 }
 
-// The start fields of a packet.
-pub(crate) fn read(packet: &[u8]) -> Start
-    ensures { λ r. ⌜ r ≡ startOf (now (packet .entry)) ⌝ }
+// The start fields of a packet: 0 for a continuation.
+pub(crate) fn read(packet: &[u8], starts: bool) -> Start
+    ensures { λ r. ⌜ r ≡ startIn starts (now (packet .entry)) ⌝ }
 {
+    if !starts {
+        return Start::none();
+    }
     Start {
         image_type: number::u8_at(packet, 25),
         hot_x: number::u16_at(packet, 26),
@@ -51,12 +53,5 @@ pub(crate) fn read(packet: &[u8]) -> Start
 pub fn position(packet: &[u8]) -> Position
     ensures { λ r. ⌜ r ≡ startPosition (now (packet .entry)) ⌝ }
 {
-    let rtp = rtp::read(packet);
-    let x = signed::signed16(number::u16_at(packet, 21));
-    let y = signed::signed16(number::u16_at(packet, 23));
-    Position {
-        sequence: rtp.sequence,
-        x: x,
-        y: y,
-    }
+    position::at(packet, 21, 23)
 }

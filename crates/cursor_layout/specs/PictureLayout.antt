@@ -10,6 +10,10 @@ use Rattle.wire.specs.Laid.{laid}
 use Rattle.little_endian.specs.Layout.{flag, isSet}
 use Rattle.little_endian.specs.Little.{numberAt, bytes}
 
+-- its length in bytes
+abbrev pub pictureLength : ℕ
+pictureLength = 15
+
 -- the last six bytes: whether a start was seen, and its own fields
 unfoldable pub startBytes : Bool → Start → List ℕ
 startBytes seen s = bytes 1 (flag seen) ++ bytes 1 (s .«image_type») ++ bytes 2 (s .«hot_x») ++ bytes 2 (s .«hot_y»)
@@ -42,4 +46,4 @@ pub record PictureFits (q : Picture) : Type 0 where
 
 -- What is written reads back. The proof stands in proofs/Laws/PictureLayout.antt.
 unfoldable pub PictureReadsBack : Type 0
-PictureReadsBack = (q : Picture) (xs : List ℕ) → PictureFits q → 15 ≤ length xs → pictureOf (laid (pictureBytes q) xs) ≡ q
+PictureReadsBack = (q : Picture) (xs : List ℕ) → PictureFits q → pictureLength ≤ length xs → pictureOf (laid (pictureBytes q) xs) ≡ q

@@ -10,6 +10,10 @@ use Rattle.wire.specs.Laid.{laid}
 use Rattle.little_endian.specs.Layout.{flag, isSet}
 use Rattle.little_endian.specs.Little.{numberAt, bytes}
 
+-- its length in bytes
+abbrev pub pointerLength : ℕ
+pointerLength = 7
+
 -- its bytes
 unfoldable pub pointerBytes : Pointer → List ℕ
 pointerBytes p = bytes 1 (flag (p .known)) ++ bytes 2 (p .sequence) ++ bytes 2 (unsigned 2 (p .x)) ++ bytes 2 (unsigned 2 (p .y))
@@ -28,5 +32,5 @@ pointerOf xs =
 -- n and for −n − 1). The proof stands in proofs/Laws/PointerLayout.antt.
 unfoldable pub PointerReadsBack : Type 0
 PointerReadsBack =
-    (p : Pointer) (xs : List ℕ) → p .sequence < 65536 → mag (p .x) < 32768 → mag (p .y) < 32768 → 7 ≤ length xs
+    (p : Pointer) (xs : List ℕ) → p .sequence < 65536 → mag (p .x) < 32768 → mag (p .y) < 32768 → pointerLength ≤ length xs
     → pointerOf (laid (pointerBytes p) xs) ≡ p

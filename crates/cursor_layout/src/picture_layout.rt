@@ -14,7 +14,7 @@ ghost use Prim.Native.Nat.{_≤_};
 ghost use lib.ListN.{length};
 ghost use Rattle.wire.specs.Splice.{splice};
 ghost use Rattle.wire.specs.Laid.{laid};
-ghost use Rattle.cursor_layout.specs.PictureLayout.{startBytes, pictureBytes, pictureOf};
+ghost use Rattle.cursor_layout.specs.PictureLayout.{pictureLength, startBytes, pictureBytes, pictureOf};
 use cursor_fragment::start::Start;
 use cursor_picture::Picture;
 use little_endian::put_u8;
@@ -46,7 +46,7 @@ pub fn read(record: &[u8]) -> Picture
 
 // Writes whether a start was seen, and its own fields, in the places from 9 on.
 fn write_start(record: &mut [u8], seen: bool, start: Start)
-    requires { ⌜ 15 ≤ length (now «record») ⌝ }
+    requires { ⌜ pictureLength ≤ length (now «record») ⌝ }
     ensures { λ _. ⌜ now («record» .exit) ≡ splice 9 (startBytes seen start) (now («record» .entry)) ⌝ }
 {
     put_u8(record, 9, seen as u8);
@@ -55,7 +55,7 @@ fn write_start(record: &mut [u8], seen: bool, start: Start)
     put_u16(record, 13, start.hot_y);
 }
 
-// Writes the picture in the first 15 bytes; a shorter slice is left alone.
+// Writes the picture in the first bytes; a slice shorter than its layout is left alone.
 pub fn write(record: &mut [u8], picture: Picture)
     ensures { λ _. ⌜ now («record» .exit) ≡ laid (pictureBytes picture) (now («record» .entry)) ⌝ }
 {

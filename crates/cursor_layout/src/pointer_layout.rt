@@ -30,7 +30,7 @@ pub fn read(record: &[u8]) -> Pointer
     }
 }
 
-// Writes the pointer in the first 7 bytes; a shorter slice is left alone.
+// Writes the pointer in the first bytes; a slice shorter than its layout is left alone.
 pub fn write(record: &mut [u8], pointer: Pointer)
     ensures { λ _. ⌜ now («record» .exit) ≡ laid (pointerBytes pointer) (now («record» .entry)) ⌝ }
 {

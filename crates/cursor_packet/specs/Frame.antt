@@ -17,13 +17,18 @@ typeOf p = number 1 p 12
 abbrev pub sizeOf : List ℕ → ℕ
 sizeOf p = number 2 p 13
 
--- taken: the call takes this type; fits: PacketMsgSize is one of this type's
+-- fits: PacketMsgSize is one of this type's
+abbrev pub sizeChecks : Bool → List ℕ → List Check
+sizeChecks fits p =
+    refuse status.WrongSize (not fits)
+    ∷ refuse status.Truncated (ltb (length p) (12 + sizeOf p))
+    ∷ refuse status.WrongSize (ltb (12 + sizeOf p) (length p))
+    ∷ []
+
+-- taken: the call takes this type
 unfoldable pub frameChecks : Bool → Bool → List ℕ → List Check
 frameChecks taken fits p =
     refuse status.Truncated (ltb (length p) 15)
     ∷ refuse status.WrongHeader (not (rtpHolds p))
     ∷ refuse status.UnknownKind (not taken)
-    ∷ refuse status.WrongSize (not fits)
-    ∷ refuse status.Truncated (ltb (length p) (12 + sizeOf p))
-    ∷ refuse status.WrongSize (ltb (12 + sizeOf p) (length p))
-    ∷ []
+    ∷ sizeChecks fits p

@@ -15,8 +15,12 @@ use Rattle.cursor_packet.specs.Frame.{typeOf, sizeOf, frameChecks}
 unfoldable pub positionChecks : List ℕ → List Check
 positionChecks p = frameChecks (eqb (typeOf p) 1) (eqb (sizeOf p) 7) p
 
-unfoldable pub positionOf : List ℕ → Position
-positionOf p = record { sequence = number 2 p 2; x = signed 2 (number 2 p 15); y = signed 2 (number 2 p 17) }
+-- the position whose x and y stand at these places of a packet, with the packet's sequence number
+unfoldable pub positionAt : ℕ → ℕ → List ℕ → Position
+positionAt x y p = record { sequence = number 2 p 2; x = signed 2 (number 2 p x); y = signed 2 (number 2 p y) }
+
+abbrev pub positionOf : List ℕ → Position
+positionOf p = positionAt 15 17 p
 
 unfoldable pub readPosition : List ℕ → PositionAnswer
 readPosition p = cond (accepted (firstOf (positionChecks p))) (Accepted (positionOf p)) (Refused (firstOf (positionChecks p)) 0)

@@ -5,7 +5,7 @@
 //      17      2  YPos, signed
 ghost use mathlib.Core.Path.{_≡_};
 ghost use Rattle.wire.specs.Checks.{firstOf};
-ghost use Rattle.cursor_packet.specs.Position.{positionChecks, positionOf, readPosition};
+ghost use Rattle.cursor_packet.specs.Position.{positionChecks, positionAt, positionOf, readPosition};
 use super::frame;
 use super::rtp;
 use super::rtp::Rtp;
@@ -31,18 +31,25 @@ pub enum PositionAnswer {
     Refused { status: Status, place: usize },
 }
 
+// The position whose x and y stand at these places of a packet, with the packet's sequence number.
+pub fn at(packet: &[u8], x: usize, y: usize) -> Position
+    ensures { λ r. ⌜ r ≡ positionAt x y (now (packet .entry)) ⌝ }
+{
+    let rtp = rtp::read(packet);
+    let across = signed::signed16(number::u16_at(packet, x));
+    let down = signed::signed16(number::u16_at(packet, y));
+    Position {
+        sequence: rtp.sequence,
+        x: across,
+        y: down,
+    }
+}
+
 // The fields of a position packet.
 pub fn fields(packet: &[u8]) -> Position
     ensures { λ r. ⌜ r ≡ positionOf (now (packet .entry)) ⌝ }
 {
-    let rtp = rtp::read(packet);
-    let x = signed::signed16(number::u16_at(packet, 15));
-    let y = signed::signed16(number::u16_at(packet, 17));
-    Position {
-        sequence: rtp.sequence,
-        x: x,
-        y: y,
-    }
+    at(packet, 15, 17)
 }
 
 // The first refusal in 01's order, or Accepted: fewer than 15 bytes 1; RTP 3; another type 4; PacketMsgSize not 7, 2; too few bytes 1; too

@@ -1,20 +1,24 @@
 -- The completeness question (01, "Cursor packets": "The completeness question is 17 first; with no picture open its answer is no"; "Total
 -- 0 is allowed, and is complete once a start is seen"). Assumes nothing.
 use Prim.Native.Nat.{ℕ}
-use mathlib.Core.Bool.{Bool, not, cond, _&&_}
+use mathlib.Core.Bool.{Bool, cond, _&&_}
 use mathlib.Core.List.{List}
-use lib.ListN.{length}
+use lib.Dec.{eqb}
+use lib.ListN.{length, take}
 use Rattle.wire.specs.declared.status.Status.the-variants as status
-use Rattle.scan.specs.Below.{someBelow}
-use Rattle.scan.specs.Empty.{emptyAt}
+use Rattle.scan.specs.Empty.{firstEmpty}
 use Rattle.cursor_picture.specs.declared.Picture.{Picture}
 use Rattle.cursor_picture.specs.declared.completeness.CompleteAnswer.{CompleteAnswer}
 use Rattle.cursor_picture.specs.declared.completeness.CompleteAnswer.the-variants.{Yes, No, Refused}
 use Rattle.cursor_picture.specs.Picture.{held}
 
--- every place is filled: none of the places 0 to total − 1 is empty
-unfoldable pub allFilled : List ℕ → ℕ → Bool
-allFilled marks total = not (someBelow total (emptyAt marks))
+-- the place of the first empty mark of the places 0 to total − 1, or the total where each is filled
+unfoldable pub firstEmptyOf : List ℕ → ℕ → ℕ
+firstEmptyOf marks total = firstEmpty (take total marks)
+
+-- every place is filled
+abbrev pub allFilled : List ℕ → ℕ → Bool
+allFilled marks total = eqb (firstEmptyOf marks total) total
 
 -- `image` is the lent picture's length
 unfoldable pub completeness : Picture → ℕ → List ℕ → CompleteAnswer

@@ -2,7 +2,7 @@
 ghost use mathlib.Core.Path.{_≡_};
 ghost use Prim.Native.Nat.{_≤_};
 ghost use lib.ListN.{length};
-ghost use Rattle.cursor_picture.specs.Completeness.{allFilled, completeness};
+ghost use Rattle.cursor_picture.specs.Completeness.{firstEmptyOf, completeness};
 use super::Picture;
 use super::is_held;
 use scan::empty;
@@ -14,12 +14,12 @@ pub enum CompleteAnswer {
     Refused { status: Status, place: usize },
 }
 
-// Whether each of the first `total` marks is filled.
-fn all_filled(marks: &[u8], total: usize) -> bool
+// The place of the first empty mark below the total, or the total where each is filled.
+fn first_empty(marks: &[u8], total: usize) -> usize
     requires { ⌜ total ≤ length (now marks) ⌝ }
-    ensures { λ r. ⌜ r ≡ allFilled (now (marks .entry)) total ⌝ }
+    ensures { λ r. ⌜ r ≡ firstEmptyOf (now (marks .entry)) total ⌝ }
 {
-    empty::first(&marks[..total]) == total
+    empty::first(&marks[..total])
 }
 
 // Whether a start of the opened picture was seen and every place is filled; with no picture opened, no.
@@ -34,7 +34,8 @@ pub fn complete(picture: Picture, image: &[u8], marks: &[u8]) -> CompleteAnswer
     }
     if picture.opened {
         if picture.seen {
-            if all_filled(marks, picture.total as usize) {
+            let total = picture.total as usize;
+            if first_empty(marks, total) == total {
                 return CompleteAnswer::Yes;
             }
         }

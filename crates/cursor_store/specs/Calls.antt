@@ -13,7 +13,8 @@ use Rattle.cursor_picture.specs.declared.Picture.{Picture}
 use Rattle.cursor_store.specs.declared.storing.StoreAnswer.{StoreAnswer}
 use Rattle.cursor_store.specs.declared.storing.StoreAnswer.the-variants.{Accepted, Refused}
 use Rattle.cursor_store.specs.Judging.{ofOpened}
-use Rattle.cursor_store.specs.Storing.{StoreResult, stored}
+use Rattle.cursor_store.specs.Assembling.{Outcome}
+use Rattle.cursor_store.specs.Storing.{stored}
 
 -- what the host keeps between the calls: both records, the picture and the marks
 pub record State : Type 0 where
@@ -28,17 +29,17 @@ pub data Call : Type 0 where
   other : List ℕ → Call
 
 abbrev pub isAccepted : StoreAnswer → Bool
-isAccepted (Accepted p q) = true
+isAccepted (Accepted x) = true
 isAccepted (Refused s k) = false
 
 -- the answer to a packet, and what picture and marks then hold
-abbrev pub answered : State → List ℕ → StoreResult
+abbrev pub answered : State → List ℕ → Outcome StoreAnswer
 answered s packet = stored (s .pointer) (s .picture) packet (s .image) (s .marks)
 
 -- the host keeps the records that an acceptance returns, and after a refusal those that it has
 abbrev pub kept : StoreAnswer → Pointer → Picture → List ℕ → List ℕ → State
-kept (Accepted q p) p₀ q₀ image marks = record { pointer = p; picture = q; image = image; marks = marks }
-kept (Refused s k) p₀ q₀ image marks = record { pointer = p₀; picture = q₀; image = image; marks = marks }
+kept (Accepted x) p q image marks = record { pointer = x .pointer; picture = x .picture; image = image; marks = marks }
+kept (Refused s k) p q image marks = record { pointer = p; picture = q; image = image; marks = marks }
 
 -- the state after one call
 unfoldable pub next : State → List ℕ → State

@@ -12,21 +12,22 @@ use Rattle.wire.specs.Splice.{splice}
 use Rattle.wire.specs.declared.status.Status.the-variants as status
 use Rattle.scan.specs.Below.{someBelow}
 use Rattle.scan.specs.Conflict.{conflictIn}
+use Rattle.scan.specs.Empty.{firstEmpty}
 use Rattle.scan.specs.Order.{lesser}
 use Rattle.wire.specs.Checks.{firstOf}
 use Rattle.cursor_packet.specs.Frame.{frameChecks}
 use Rattle.cursor_packet.specs.Rtp.{rtpHolds, unusedZero}
-use Rattle.cursor_packet.specs.Position.{positionChecks, positionOf}
-use Rattle.cursor_fragment.specs.Fragment.{takesType, headerLength, imageData, offsetOf, outside, fragmentFrame, fragmentChecks, startFragment, continuationFragment, fragmentOf}
-use Rattle.cursor_fragment.specs.Continuation.{continuationOf, placeOf}
-use Rattle.cursor_fragment.specs.Start.{startOf, noStart}
+use Rattle.cursor_packet.specs.Position.{positionChecks, positionAt}
+use Rattle.cursor_fragment.specs.Fragment.{takesType, headerLength, imageData, offsetBits, placeOf, outside, fragmentFrame, fragmentChecks, fragmentAs}
+use Rattle.cursor_fragment.specs.Start.{startOf, noStart, startIn}
 use Rattle.cursor_pointer.specs.declared.PointerAnswer.the-variants as pointer
 use Rattle.cursor_pointer.specs.Pointer.{freshPointer, movedTo, positionStatus, positioned}
 use Rattle.cursor_picture.specs.declared.completeness.CompleteAnswer.the-variants as complete
 use Rattle.cursor_picture.specs.Picture.{freshPicture, hasRoom, held}
-use Rattle.cursor_picture.specs.Completeness.{allFilled, completeness}
+use Rattle.cursor_picture.specs.Completeness.{firstEmptyOf, completeness}
 use Rattle.cursor_store.specs.Judging.{ofOpened, sameStart, startDiffers, bytesDiffer, openedRules, otherRules, judging}
-use Rattle.cursor_store.specs.Storing.{openedFor, clearedFor, imageAfter, marksAfter, withStart, pictureAfter, pointerAfter, outcome, storeChecks, storeStatus, stored}
+use Rattle.cursor_store.specs.Assembling.{storeChecks, storeStatus, openedFor, clearedFor, imageAfter, marksAfter, withStart, pictureAfter, assembledAs, assembled}
+use Rattle.cursor_store.specs.Storing.{pointerAfter, stored}
 use Rattle.cursor_store.specs.Calls.{State, Call, fragment, other, next, run}
 use Rattle.cursor_store.specs.DemandThree.{Whole, Given, SameFragments, SameEnd}
 
@@ -39,12 +40,12 @@ abbrev pub position9 : List ℕ
 position9 = rtp 0 5 ++ (1 ∷ 0 ∷ 7 ∷ 0xff ∷ 0xfe ∷ 0 ∷ 0x0a ∷ [])
 
 pub p9 : positioned freshPointer position9 ≡ pointer.Accepted (record { known = true; sequence = 5; x = negsuc 1; y = pos 10 })
-unfolding positioned positionStatus freshPointer movedTo isNewer positionChecks positionOf firstOf frameChecks rtpHolds unusedZero number signed
+unfolding positioned positionStatus freshPointer movedTo isNewer positionChecks positionAt firstOf frameChecks rtpHolds unusedZero number signed
 p9 = refl
 
 -- the same packet again is not newer
 pub p9-again : positioned (record { known = true; sequence = 5; x = negsuc 1; y = pos 10 }) position9 ≡ pointer.Refused status.NotNewer 0
-unfolding positioned positionStatus movedTo isNewer distance positionChecks positionOf firstOf frameChecks rtpHolds unusedZero number signed
+unfolding positioned positionStatus movedTo isNewer distance positionChecks positionAt firstOf frameChecks rtpHolds unusedZero number signed
 p9-again = refl
 
 -- a continuation of total 8, id 1, with a PacketMsgSize below 256, an offset and data
@@ -59,7 +60,7 @@ pub p10
     : (storeStatus freshPicture (eight 13 (0 ∷ 0 ∷ 0 ∷ 8 ∷ [])) nine nine ≡ status.Accepted)
     × (storeStatus freshPicture (eight 15 (0 ∷ 0 ∷ 0 ∷ 7 ∷ 65 ∷ 66 ∷ [])) nine nine ≡ status.OutsideImage)
     × (storeStatus freshPicture (eight 13 (0xff ∷ 0xff ∷ 0xff ∷ 0xff ∷ [])) nine nine ≡ status.OutsideImage)
-unfolding storeStatus storeChecks freshPicture held hasRoom judging openedRules otherRules ofOpened isNewer fragmentChecks fragmentFrame firstOf frameChecks rtpHolds unusedZero number signed takesType headerLength imageData continuationOf offsetOf placeOf outside fragmentOf continuationFragment
+unfolding storeStatus storeChecks freshPicture held hasRoom judging openedRules otherRules ofOpened isNewer fragmentChecks fragmentFrame firstOf frameChecks rtpHolds unusedZero number signed takesType headerLength imageData offsetBits placeOf outside fragmentAs
 p10 = (refl, refl, refl)
 
 -- The premises of demand 3 can be met: a picture of four bytes under id 9, its last place filled, and two lists of the same three
@@ -109,5 +110,5 @@ pub ends-with
     × (run opened backwards .marks ≡ 1 ∷ 1 ∷ 1 ∷ 1 ∷ 7 ∷ [])
     × (completeness (run opened forwards .picture) 5 (run opened forwards .marks) ≡ complete.Yes)
     × (completeness (opened .picture) 5 (opened .marks) ≡ complete.No)
-unfolding run next stored outcome storeStatus storeChecks held hasRoom judging openedRules otherRules ofOpened sameStart startDiffers bytesDiffer conflictIn someBelow lesser isNewer distance movedTo openedFor clearedFor imageAfter marksAfter withStart pictureAfter pointerAfter splice fragmentChecks fragmentFrame firstOf frameChecks rtpHolds unusedZero number signed takesType headerLength imageData startOf noStart continuationOf offsetOf placeOf outside fragmentOf startFragment continuationFragment allFilled completeness
+unfolding run next stored assembled assembledAs storeStatus storeChecks held hasRoom judging openedRules otherRules ofOpened sameStart startDiffers bytesDiffer conflictIn someBelow lesser isNewer distance movedTo openedFor clearedFor imageAfter marksAfter withStart pictureAfter pointerAfter splice fragmentChecks fragmentFrame firstOf frameChecks rtpHolds unusedZero number signed takesType headerLength imageData startOf noStart startIn offsetBits placeOf outside fragmentAs firstEmptyOf firstEmpty completeness
 ends-with = (refl, refl, refl, refl, refl)

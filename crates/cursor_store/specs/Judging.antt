@@ -58,7 +58,7 @@ judging q f ds image marks =
 -- The proofs of these laws stand in proofs/Laws/Judging.antt.
 
 abbrev pub withSequence : ℕ → Fragment → Fragment
-withSequence n f = record { sequence = n; total = f .total; id = f .id; offset = f .offset; starts = f .starts; x = f .x; y = f .y; start = f .start }
+withSequence n f = record { sequence = n; total = f .total; id = f .id; offset = f .offset; starts = f .starts; start = f .start }
 
 -- a fragment of the opened id is judged without a look at its sequence number: an old one is stored as a new one is
 unfoldable pub SequenceIgnored : Type 0

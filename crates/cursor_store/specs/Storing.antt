@@ -1,96 +1,32 @@
--- The call for starts and continuations: its checks in their order, and what an accepted fragment does (01, "Cursor packets": "Pointer",
--- "Picture"). Assumes nothing.
+-- The call for starts and continuations: the picture's part, and then the pointer's. Assumes nothing.
 use Prim.Native.Nat.{ℕ}
-use mathlib.Core.Path.{_≡_}
-use mathlib.Core.Bool.{true, false, not, cond}
-use mathlib.Core.List.{List, _∷_, _++_}
-use lib.ListN.{length, replicate}
-use Rattle.wire.specs.Splice.{splice}
-use Rattle.wire.specs.declared.status.Status.{Status}
-use Rattle.wire.specs.declared.status.Status.the-variants as status
-use Rattle.wire.specs.Checks.{Check, refuse, firstOf, accepted}
-use Rattle.cursor_fragment.specs.Fragment.{isStart, fragmentChecks, fragmentOf, dataOf}
-use Rattle.cursor_fragment.specs.Start.{noStart}
-use Rattle.cursor_fragment.specs.declared.Fragment.{Fragment}
+use mathlib.Core.Bool.{cond}
+use mathlib.Core.List.{List}
+use Rattle.wire.specs.Checks.{accepted}
+use Rattle.cursor_fragment.specs.Fragment.{isStart}
+use Rattle.cursor_fragment.specs.Start.{startPosition}
 use Rattle.cursor_pointer.specs.declared.Pointer.{Pointer}
 use Rattle.cursor_pointer.specs.Pointer.{movedTo}
 use Rattle.cursor_picture.specs.declared.Picture.{Picture}
-use Rattle.cursor_picture.specs.Picture.{held}
+use Rattle.cursor_store.specs.declared.storing.Assembled.{Assembled}
 use Rattle.cursor_store.specs.declared.storing.StoreAnswer.{StoreAnswer}
 use Rattle.cursor_store.specs.declared.storing.StoreAnswer.the-variants.{Accepted, Refused}
-use Rattle.cursor_store.specs.Judging.{ofOpened, judging, withSequence}
+use Rattle.cursor_store.specs.Assembling.{Outcome, outcome, assembled}
 
--- Opening: "marks of places 0 to total − 1 become 0, start fields 0 and unseen".
+-- the pointer after an accepted packet (01, "Cursor packets": "Pointer": "An accepted start does so too if newer; if not, it still stores its
+-- data")
+unfoldable pub pointerAfter : Pointer → List ℕ → Pointer
+pointerAfter p packet =
+    cond (isStart packet) (movedTo p (startPosition packet .sequence) (startPosition packet .x) (startPosition packet .y)) p
 
--- the record of a picture that the fragment opens
-unfoldable pub openedBy : Fragment → Picture
-openedBy f = record { opened = true; id = f .id; total = f .total; opening = f .sequence; seen = false; start = noStart }
+-- the picture's answer with the pointer's: an accepted packet may move it
+abbrev pub answerWith : Pointer → List ℕ → Assembled → StoreAnswer
+answerWith p packet r =
+    cond (accepted (r .status)) (Accepted (record { pointer = pointerAfter p packet; picture = r .picture })) (Refused (r .status) 0)
 
--- the record after any opening: of the opened id, the picture stays; of another, the fragment opens its own
-unfoldable pub openedFor : Picture → Fragment → Picture
-openedFor q f = cond (ofOpened q f) q (openedBy f)
+-- the picture's outcome, then the pointer's
+abbrev pub withPointer : Pointer → List ℕ → Outcome Assembled → Outcome StoreAnswer
+withPointer p packet a = outcome (answerWith p packet (a .answer)) (a .image) (a .marks)
 
--- the marks after any opening
-unfoldable pub clearedFor : Picture → Fragment → List ℕ → List ℕ
-clearedFor q f marks = cond (ofOpened q f) marks (splice 0 (replicate (f .total) 0) marks)
-
--- Storing: "its data goes into the middle of the picture at its offset, and each place in the range gets mark 1".
-
-unfoldable pub imageAfter : Fragment → List ℕ → List ℕ → List ℕ
-imageAfter f ds image = splice (f .offset) ds image
-
-unfoldable pub marksAfter : Picture → Fragment → List ℕ → List ℕ → List ℕ
-marksAfter q f ds marks = splice (f .offset) (replicate (length ds) 1) (clearedFor q f marks)
-
--- a start's own fields are kept
-unfoldable pub withStart : Fragment → Picture → Picture
-withStart f q =
-    cond (f .starts)
-    (record { opened = q .opened; id = q .id; total = q .total; opening = q .opening; seen = true; start = f .start })
-    q
-
-unfoldable pub pictureAfter : Picture → Fragment → Picture
-pictureAfter q f = withStart f (openedFor q f)
-
--- Moving the pointer: "An accepted start does so too if newer; if not, it still stores its data".
-unfoldable pub pointerAfter : Pointer → Fragment → Pointer
-pointerAfter p f = cond (f .starts) (movedTo p (f .sequence) (f .x) (f .y)) p
-
--- an answer, with what the lent picture and marks then hold
-pub record StoreResult : Type 0 where
-  pub answer : StoreAnswer
-  pub image : List ℕ
-  pub marks : List ℕ
-
-abbrev pub storeResult : StoreAnswer → List ℕ → List ℕ → StoreResult
-storeResult r image marks = record { answer = r; image = image; marks = marks }
-
--- what a call does whose checks give this status: all of it where that is Accepted, else nothing
-unfoldable pub outcome : Status → Pointer → Picture → Fragment → List ℕ → List ℕ → List ℕ → StoreResult
-outcome s p q f ds image marks =
-    cond (accepted s)
-    (storeResult (Accepted (pictureAfter q f) (pointerAfter p f)) (imageAfter f ds image) (marksAfter q f ds marks))
-    (storeResult (Refused s 0) image marks)
-
--- a fragment judged by itself
-unfoldable pub fragmentStored : Pointer → Picture → Fragment → List ℕ → List ℕ → List ℕ → StoreResult
-fragmentStored p q f ds image marks = outcome (firstOf (judging q f ds image marks)) p q f ds image marks
-
--- The call: "17 where a picture is lent; fewer than 15 bytes 1; RTP 3; type 4; PacketMsgSize below its header .. 2; too few bytes 1; too
--- many 2; 9; 10; then the rules below".
-unfoldable pub storeChecks : Picture → List ℕ → List ℕ → List ℕ → List Check
-storeChecks q packet image marks =
-    refuse status.ImageNotHeld (not (held q (length image) (length marks)))
-    ∷ (fragmentChecks (isStart packet) packet ++ judging q (fragmentOf packet) (dataOf packet) image marks)
-
-unfoldable pub storeStatus : Picture → List ℕ → List ℕ → List ℕ → Status
-storeStatus q packet image marks = firstOf (storeChecks q packet image marks)
-
-unfoldable pub stored : Pointer → Picture → List ℕ → List ℕ → List ℕ → StoreResult
-stored p q packet image marks = outcome (storeStatus q packet image marks) p q (fragmentOf packet) (dataOf packet) image marks
-
--- A continuation of the opened id does the same whatever its sequence number. The proof stands in proofs/Laws/Storing.antt.
-unfoldable pub OldContinuationStored : Type 0
-OldContinuationStored =
-    (n : ℕ) (p : Pointer) (q : Picture) (f : Fragment) (ds image marks : List ℕ) → ofOpened q f ≡ true → f .starts ≡ false
-    → fragmentStored p q (withSequence n f) ds image marks ≡ fragmentStored p q f ds image marks
+unfoldable pub stored : Pointer → Picture → List ℕ → List ℕ → List ℕ → Outcome StoreAnswer
+stored p q packet image marks = withPointer p packet (assembled q packet image marks)

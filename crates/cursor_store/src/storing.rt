@@ -3,9 +3,8 @@ ghost use mathlib.Core.Path.{_≡_};
 ghost use Prim.Native.Nat.{_+_, _≤_};
 ghost use lib.ListN.{length, replicate};
 ghost use Rattle.wire.specs.Splice.{splice};
-ghost use Rattle.cursor_fragment.specs.Fragment.{fragmentOf};
-ghost use Rattle.cursor_store.specs.Storing.{storeResult, openedBy, openedFor, clearedFor, withStart, pointerAfter, stored};
-ghost use Rattle.cursor_store.specs.Assembling.{assembleResult, fragmentAssembled, assembled};
+ghost use Rattle.cursor_store.specs.Assembling.{outcome, openedBy, openedFor, clearedFor, withStart, fragmentAssembled, assembled};
+ghost use Rattle.cursor_store.specs.Storing.{pointerAfter, stored};
 use super::judging;
 use cursor_fragment::Fragment;
 use cursor_fragment::start;
@@ -22,9 +21,15 @@ pub struct Assembled {
     pub picture: Picture,
 }
 
-// The records as the fragment leaves them, or a refusal, which changes nothing.
+// The records as an accepted fragment leaves them.
+pub struct Stored {
+    pub pointer: Pointer,
+    pub picture: Picture,
+}
+
+// What an accepted fragment leaves, or a refusal, which changes nothing.
 pub enum StoreAnswer {
-    Accepted(Picture, Pointer),
+    Accepted(Stored),
     Refused { status: Status, place: usize },
 }
 
@@ -98,7 +103,7 @@ fn take(
     marks: &mut [u8],
 ) -> Assembled
     requires { ⌜ fragment .offset + length (now «data») ≤ fragment .total ⌝ }
-    ensures { λ r. ⌜ assembleResult r (now (image .exit)) (now (marks .exit)) ≡ fragmentAssembled picture fragment (now («data» .entry)) (now (image .entry)) (now (marks .entry)) ⌝ }
+    ensures { λ r. ⌜ outcome r (now (image .exit)) (now (marks .exit)) ≡ fragmentAssembled picture fragment (now («data» .entry)) (now (image .entry)) (now (marks .entry)) ⌝ }
 {
     let judged = judging::judge(picture, fragment, data, image, marks);
     if status::number(judged) != 0 {
@@ -115,10 +120,10 @@ fn take(
     }
 }
 
-// The call for starts and continuations as far as the picture goes: the first refusal in 01's order, which changes nothing, or Accepted, with
-// the record of the picture as the fragment leaves it.
+// The picture's part of the call for starts and continuations: the first refusal in 01's order, which changes nothing, or Accepted, with the
+// record of the picture as the fragment leaves it.
 pub fn assemble(picture: Picture, packet: &[u8], image: &mut [u8], marks: &mut [u8]) -> Assembled
-    ensures { λ r. ⌜ assembleResult r (now (image .exit)) (now (marks .exit)) ≡ assembled picture (now (packet .entry)) (now (image .entry)) (now (marks .entry)) ⌝ }
+    ensures { λ r. ⌜ outcome r (now (image .exit)) (now (marks .exit)) ≡ assembled picture (now (packet .entry)) (now (image .entry)) (now (marks .entry)) ⌝ }
 {
     if !cursor_picture::is_held(picture, image.len(), marks.len()) {
         return Assembled {
@@ -139,9 +144,9 @@ pub fn assemble(picture: Picture, packet: &[u8], image: &mut [u8], marks: &mut [
     take(picture, fragment, data, image, marks)
 }
 
-// The pointer after an accepted packet: moved by a newer start.
+// The pointer's part: moved by an accepted packet that is a newer start.
 pub fn moved_by(pointer: Pointer, packet: &[u8]) -> Pointer
-    ensures { λ r. ⌜ r ≡ pointerAfter pointer (fragmentOf (now (packet .entry))) ⌝ }
+    ensures { λ r. ⌜ r ≡ pointerAfter pointer (now (packet .entry)) ⌝ }
 {
     if cursor_fragment::is_start(packet) {
         let position = start::position(packet);
@@ -150,8 +155,7 @@ pub fn moved_by(pointer: Pointer, packet: &[u8]) -> Pointer
     pointer
 }
 
-// The call for starts and continuations: takes types 2 and 3 only. The answer is the records as the fragment leaves them, or the first
-// refusal in 01's order; a refusal changes no byte.
+// The call for starts and continuations, which takes types 2 and 3 only: the picture's part and then the pointer's. A refusal changes no byte.
 pub fn store(
     pointer: Pointer,
     picture: Picture,
@@ -159,7 +163,7 @@ pub fn store(
     image: &mut [u8],
     marks: &mut [u8],
 ) -> StoreAnswer
-    ensures { λ r. ⌜ storeResult r (now (image .exit)) (now (marks .exit)) ≡ stored pointer picture (now (packet .entry)) (now (image .entry)) (now (marks .entry)) ⌝ }
+    ensures { λ r. ⌜ outcome r (now (image .exit)) (now (marks .exit)) ≡ stored pointer picture (now (packet .entry)) (now (image .entry)) (now (marks .entry)) ⌝ }
 {
     let assembled = assemble(picture, packet, image, marks);
     let status = assembled.status;
@@ -170,5 +174,9 @@ pub fn store(
             place: 0,
         };
     }
-    StoreAnswer::Accepted(opened, moved_by(pointer, packet))
+    let moved = moved_by(pointer, packet);
+    StoreAnswer::Accepted(Stored {
+        pointer: moved,
+        picture: opened,
+    })
 }

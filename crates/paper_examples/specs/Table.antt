@@ -30,9 +30,8 @@ use Rattle.cursor_packet.specs.declared.position.PositionAnswer.the-variants as
 use Rattle.wire.specs.Checks.{firstOf}
 use Rattle.cursor_packet.specs.Rtp.{unusedZero, rtpHolds}
 use Rattle.cursor_packet.specs.Frame.{frameChecks}
-use Rattle.cursor_packet.specs.Position.{positionChecks, positionOf, readPosition}
-use Rattle.cursor_fragment.specs.Continuation.{continuationOf}
-use Rattle.cursor_fragment.specs.Fragment.{takesType, headerLength, imageData, offsetOf, outside, fragmentFrame, fragmentChecks, fragmentStatus}
+use Rattle.cursor_packet.specs.Position.{positionChecks, positionAt, readPosition}
+use Rattle.cursor_fragment.specs.Fragment.{takesType, headerLength, imageData, offsetBits, outside, fragmentFrame, fragmentChecks, fragmentStatus}
 use Rattle.text.specs.declared.hex.Digits.{Digits}
 use Rattle.text.specs.declared.hex.Digits.the-variants as hexadecimal
 use Rattle.text.specs.Range.{within}
@@ -158,8 +157,8 @@ unfolding
     examples afterSize withoutPort rtp ofTotal8 isPort isRefused same sameInteger isPosition isNumber isClosed closesIt holds allHold
     allBelow number distance isNewer signed
     rolesOf roleOf lengthsOf lengthIn lengthOk knownCommand fieldOf withField emptyOf headerStatus hasNeeded isComplete tlvAt lastOf tlvsFrom readMessage portOf
-    firstOf unusedZero rtpHolds frameChecks positionChecks positionOf readPosition
-    takesType headerLength imageData continuationOf offsetOf outside fragmentFrame fragmentChecks
+    firstOf unusedZero rtpHolds frameChecks positionChecks positionAt readPosition
+    takesType headerLength imageData offsetBits outside fragmentFrame fragmentChecks
     within digitValue isDigit hexNumber readDigits
     isEvent carried otherSource optionsFrom sourceAfter accepted stepOf
 examples-hold = refl

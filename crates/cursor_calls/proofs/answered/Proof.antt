@@ -5,18 +5,6 @@ use borrow.Author.Needs.{needs}
 use Rattle.cursor_calls.proofs.answered.Statement.{statement}
 use Rattle.cursor_calls.proofs.answered.Tie as tie
 
-enum-told : tie.Need-enum-told
-enum-told c = search needs
-
-enum-told-2 : tie.Need-enum-told-2
-enum-told-2 c = search needs
-
-enum-known-answer : tie.Need-enum-known-answer
-enum-known-answer c = search needs
-
-number-requires : tie.Need-number-requires
-number-requires c κs = search needs
-
 returns : tie.Need-returns
 returns c = sym (ap yesOrNo (c .enum-told .given .1))
 
@@ -29,4 +17,4 @@ returns-3 c = rw (c .number .ensures) (sym (ap yesOrNo (c .before .before .answe
 pub answered-spec : {M : Type 1} → statement M
 answered-spec =
     tie.close
-    (tie.spec enum-told enum-told-2 enum-known-answer number-requires returns returns-2 returns-3)
+    (tie.spec (λ c. search needs) (λ c. search needs) (λ c. search needs) (λ c κs. search needs) returns returns-2 returns-3)

@@ -9,23 +9,11 @@ use borrow.Author.Needs.{needs}
 use Rattle.cursor_calls.proofs.complete.Statement.{statement}
 use Rattle.cursor_calls.proofs.complete.Tie as tie
 
-answered-requires : tie.Need-answered-requires
-answered-requires c κs = search needs
-
 returns : tie.Need-returns
 unfolding cursorComplete
 returns c =
     let a = c .before .before .before .before .before .args in
     c .answered .ensures ∙ simp (lt-leb 15 (length (now (a .picture))) (c .before .if1 .taken))
-
-read-requires : tie.Need-read-requires
-read-requires c κs = search needs
-
-complete-requires : tie.Need-complete-requires
-complete-requires c κs = search needs
-
-answered-requires-2 : tie.Need-answered-requires-2
-answered-requires-2 c κs = search needs
 
 returns-2 : tie.Need-returns-2
 unfolding cursorComplete
@@ -38,4 +26,4 @@ returns-2 c =
 pub complete-spec : {M : Type 1} → statement M
 complete-spec =
     tie.close
-    (tie.spec answered-requires returns read-requires complete-requires answered-requires-2 returns-2)
+    (tie.spec (λ c κs. search needs) returns (λ c κs. search needs) (λ c κs. search needs) (λ c κs. search needs) returns-2)

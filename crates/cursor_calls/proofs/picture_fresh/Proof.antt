@@ -6,18 +6,6 @@ use borrow.Author.Needs.{needs}
 use Rattle.cursor_calls.proofs.picture_fresh.Statement.{statement}
 use Rattle.cursor_calls.proofs.picture_fresh.Tie as tie
 
-fresh-requires : tie.Need-fresh-requires
-fresh-requires c κs = search needs
-
-write-requires : tie.Need-write-requires
-write-requires c κs = search needs
-
-fresh-answer-requires : tie.Need-fresh-answer-requires
-fresh-answer-requires c κs = search needs
-
-same-length : tie.Need-same-length
-same-length c = search needs
-
 returns : tie.Need-returns
 returns c =
     let w = c .before .before .before in
@@ -26,4 +14,4 @@ returns c =
 
 pub picture-fresh-spec : {M : Type 1} → statement M
 picture-fresh-spec =
-    tie.close (tie.spec fresh-requires write-requires fresh-answer-requires same-length returns)
+    tie.close (tie.spec (λ c κs. search needs) (λ c κs. search needs) (λ c κs. search needs) (λ c. search needs) returns)

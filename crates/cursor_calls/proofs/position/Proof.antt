@@ -1,5 +1,5 @@
 -- The record is too short, or the packet's status decides. Assumes nothing.
-use mathlib.Core.Path.{refl, sym, _∙_}
+use mathlib.Core.Path.{sym, _∙_}
 use native.Mathlib.Omega.{arith}
 use denote.Ref.{now}
 use borrow.Author.Tests.{eq-eqb, ne-eqb}
@@ -10,28 +10,10 @@ use Rattle.cursor_calls.proofs.Laws.CursorCalls.{position-short, positi
 use Rattle.cursor_calls.proofs.position.Statement.{statement}
 use Rattle.cursor_calls.proofs.position.Tie as tie
 
-refuse-requires : tie.Need-refuse-requires
-refuse-requires c κs = search needs
-
 returns : tie.Need-returns
 returns c =
     let a = c .before .before .before .before .args in
     rw (c .refuse .ensures) (sym (position-short (now (a .pointer)) (now (a .packet)) (c .before .if1 .taken)))
-
-read-requires : tie.Need-read-requires
-read-requires c κs = search needs
-
-take-requires : tie.Need-take-requires
-take-requires c κs = search needs
-
-number-requires : tie.Need-number-requires
-number-requires c κs = search needs
-
-refuse-requires-2 : tie.Need-refuse-requires-2
-refuse-requires-2 c κs = search needs
-
-same-length : tie.Need-same-length
-same-length c = search needs
 
 returns-2 : tie.Need-returns-2
 returns-2 c =
@@ -41,17 +23,8 @@ returns-2 c =
     let a = r .before .before .before .before .before .args in
     let p = pointerOf (now (a .pointer)) in
     rw (c .refuse2 .ensures)
-    (sym (position-answered (now (a .pointer)) (now (a .packet)) _ (omega arith) refl
+    (sym (position-answered (now (a .pointer)) (now (a .packet)) _ (omega arith)
     (positioned-refused p (now (a .packet)) (t .take .result) (t .take .ensures ∙ rw (r .read .ensures)) (ne-eqb _ 0 (λ e. c .before .if2 .taken (n .number .ensures ∙ e))))))
-
-write-requires : tie.Need-write-requires
-write-requires c κs = search needs
-
-accept-requires : tie.Need-accept-requires
-accept-requires c κs = search needs
-
-same-length-2 : tie.Need-same-length-2
-same-length-2 c = search needs
 
 returns-3 : tie.Need-returns-3
 returns-3 c =
@@ -62,22 +35,22 @@ returns-3 c =
     let a = r .before .before .before .before .before .args in
     let p = pointerOf (now (a .pointer)) in
     rw (c .accept .ensures, w .write .ensures)
-    (sym (position-answered (now (a .pointer)) (now (a .packet)) _ (omega arith) refl
+    (sym (position-answered (now (a .pointer)) (now (a .packet)) _ (omega arith)
     (positioned-accepted p (now (a .packet)) (t .take .result) (t .take .ensures ∙ rw (r .read .ensures)) (eq-eqb _ 0 (sym (n .number .ensures) ∙ w .before .before .if2 .left)))))
 
 pub position-spec : {M : Type 1} → statement M
 position-spec =
     tie.close
     (tie.spec
-    refuse-requires
+    (λ c κs. search needs)
     returns
-    read-requires
-    take-requires
-    number-requires
-    refuse-requires-2
-    same-length
+    (λ c κs. search needs)
+    (λ c κs. search needs)
+    (λ c κs. search needs)
+    (λ c κs. search needs)
+    (λ c. search needs)
     returns-2
-    write-requires
-    accept-requires
-    same-length-2
+    (λ c κs. search needs)
+    (λ c κs. search needs)
+    (λ c. search needs)
     returns-3)

@@ -13,12 +13,9 @@ use Rattle.wire.specs.Number.{number}
 use Rattle.wire.specs.Signed.{signed}
 use Rattle.wire.specs.declared.status.Status.{Status}
 use Rattle.wire.specs.declared.status.Status.the-variants as status
-use Rattle.cursor_fragment.specs.declared.Fragment.{Fragment}
-use Rattle.cursor_fragment.specs.declared.FragmentAnswer.the-variants.{Accepted, Refused}
 use Rattle.wire.specs.Checks.{refuse, firstOf, accepted, refusing}
 use Rattle.cursor_packet.specs.Frame.{frameChecks}
-use Rattle.cursor_fragment.specs.Fragment.{isStart, headerLength, imageData, offsetOf, outside, fragmentFrame, fragmentChecks, startFragment, continuationFragment, fragmentOf, fragmentStatus, dataOf, readFragment, OffsetKept, DataInside}
-use Rattle.cursor_fragment.specs.Continuation.{continuationOf, placeOf}
+use Rattle.cursor_fragment.specs.Fragment.{isStart, headerLength, imageData, offsetBits, offsetOf, placeOf, outside, isOutside, fragmentFrame, fragmentChecks, fragmentAs, fragmentOf, fragmentStatus, dataOf, OffsetKept, DataInside}
 use Rattle.wire.proofs.Laws.Checks.{first-append}
 
 -- more data than the total
@@ -57,22 +54,14 @@ data-length : (starts : Bool) (p : List ℕ) (size : ℕ) → length p ≡ 12 + 
 unfolding imageData
 data-length starts p size e = length-drop (12 + headerLength starts) p ∙ rw e (let m : (12 + size) - (12 + headerLength starts) ≡ size - headerLength starts = omega arith in m)
 
-pub start-outside
-    : (p : List ℕ) (size t : ℕ) → length p ≡ 12 + size → outside (offsetOf true p) (length (imageData true p)) t ≡ ltb t (size - 18)
-unfolding outside offsetOf headerLength
-start-outside p size t e = rw (data-length true p size e) (ap (ltb t) (let n : 0 + (size - 18) ≡ size - 18 = omega arith in n))
-
-pub continuation-outside
-    : (p : List ℕ) (size t : ℕ) → length p ≡ 12 + size
-    → outside (offsetOf false p) (length (imageData false p)) t ≡ outside (signed 4 (number 4 p 21)) (size - 13) t
-unfolding offsetOf headerLength continuationOf
-continuation-outside p size t e = rw (data-length false p size e)
+-- check 9 as the code has it
+pub body-outside
+    : (starts : Bool) (p : List ℕ) (size : ℕ) → length p ≡ 12 + size
+    → isOutside starts p ≡ outside (signed 4 (offsetBits starts p)) (size - headerLength starts) (number 4 p 15)
+body-outside starts p size e = rw (data-length starts p size e)
 
 -- the checks on the frame, then 9
 module _ (starts : Bool) (p : List ℕ) where
-  abbrev pub isOutside : Bool
-  isOutside = outside (offsetOf starts p) (length (imageData starts p)) (number 4 p 15)
-
   frame-refuses : refusing (fragmentFrame starts p) ≡ true
   unfolding refusing fragmentFrame frameChecks
   frame-refuses = refl
@@ -83,9 +72,9 @@ module _ (starts : Bool) (p : List ℕ) where
 
   pub checks-are
       : firstOf (fragmentChecks starts p)
-      ≡ cond (accepted (firstOf (fragmentFrame starts p))) (cond isOutside status.OutsideImage status.Accepted) (firstOf (fragmentFrame starts p))
+      ≡ cond (accepted (firstOf (fragmentFrame starts p))) (cond (isOutside starts p) status.OutsideImage status.Accepted) (firstOf (fragmentFrame starts p))
   unfolding fragmentChecks firstOf
-  checks-are = first-append (fragmentFrame starts p) (refuse status.OutsideImage isOutside ∷ []) frame-refuses
+  checks-are = first-append (fragmentFrame starts p) (refuse status.OutsideImage (isOutside starts p) ∷ []) frame-refuses
 
 -- an accepted packet passed check 9
 passed : (s : Status) (b : Bool) → accepted (cond (accepted s) (cond b status.OutsideImage status.Accepted) s) ≡ true → b ≡ false
@@ -101,58 +90,24 @@ unfolding outside placeOf
 is-place (pos o) n t e = (refl, ltb-false t (o + n) e)
 is-place (negsuc k) n t e = absurd (false≢true (sym e))
 
-offset-is : (p : List ℕ) (b : Bool) → isStart p ≡ b → fragmentOf p .offset ≡ placeOf (offsetOf (isStart p) p)
-unfolding fragmentOf startFragment continuationFragment offsetOf placeOf
-offset-is p true e = simp e
-offset-is p false e = simp e
-
-total-is : (p : List ℕ) (b : Bool) → isStart p ≡ b → fragmentOf p .total ≡ number 4 p 15
-unfolding fragmentOf startFragment continuationFragment
-total-is p true e = simp e
-total-is p false e = simp e
-
 module _ (p : List ℕ) (h : accepted (fragmentStatus p) ≡ true) where
   nine : (offsetOf (isStart p) p ≡ pos (placeOf (offsetOf (isStart p) p))) × (placeOf (offsetOf (isStart p) p) + length (dataOf p) ≤ number 4 p 15)
   nine = is-place (offsetOf (isStart p) p) (length (dataOf p)) (number 4 p 15)
       (passed (firstOf (fragmentFrame (isStart p) p)) (isOutside (isStart p) p) (ap accepted (sym (checks-are (isStart p) p)) ∙ h))
 
 pub offset-kept : OffsetKept
-unfolding OffsetKept
-offset-kept p h = rw (offset-is p (isStart p) refl) (nine p h .0)
+unfolding OffsetKept fragmentAs
+offset-kept p h = nine p h .0
 
 pub data-inside : DataInside
-unfolding DataInside
-data-inside p h = rw (offset-is p (isStart p) refl, total-is p (isStart p) refl) (nine p h .1)
+unfolding DataInside fragmentAs
+data-inside p h = nine p h .1
 
 pub header-small : (starts : Bool) → headerLength starts ≤ 18
 unfolding headerLength
 header-small true = omega arith
 header-small false = omega arith
 
--- what follows from an answer
-module _ (x : Fragment) (t : Status) where
-  refused : (b : Bool) (s : Status) (k : ℕ) → cond b (Accepted x) (Refused t 0) ≡ Refused s k → (b ≡ false) × (t ≡ s) × (k ≡ 0)
-  refused true s k e = let bad : _≡_ {A = ℕ} 0 1 = cc in absurd (let no : ⊥ = omega arith in no)
-  refused false s k e = (refl, cc, cc)
-
-  accepted-as : (b : Bool) (y : Fragment) → cond b (Accepted x) (Refused t 0) ≡ Accepted y → (b ≡ true) × (x ≡ y)
-  accepted-as true y e = (refl, cc)
-  accepted-as false y e = let bad : _≡_ {A = ℕ} 0 1 = cc in absurd (let no : ⊥ = omega arith in no)
-
-pub read-refused
-    : (p : List ℕ) (s : Status) (k : ℕ) → readFragment p ≡ Refused s k
-    → (accepted (fragmentStatus p) ≡ false) × (fragmentStatus p ≡ s) × (k ≡ 0)
-unfolding readFragment
-read-refused p s k e = refused (fragmentOf p) (fragmentStatus p) (accepted (fragmentStatus p)) s k e
-
-pub read-accepted : (p : List ℕ) (y : Fragment) → readFragment p ≡ Accepted y → (accepted (fragmentStatus p) ≡ true) × (fragmentOf p ≡ y)
-unfolding readFragment
-read-accepted p y e = accepted-as (fragmentOf p) (fragmentStatus p) (accepted (fragmentStatus p)) y e
-
-starts-case : (p : List ℕ) (b : Bool) → isStart p ≡ b → fragmentOf p .starts ≡ isStart p
-unfolding fragmentOf startFragment continuationFragment
-starts-case p true e = simp e
-starts-case p false e = simp e
-
 pub starts-is : (p : List ℕ) → fragmentOf p .starts ≡ isStart p
-starts-is p = starts-case p (isStart p) refl
+unfolding fragmentAs
+starts-is p = refl

@@ -3,8 +3,7 @@ use Prim.Native.Nat.{ℕ}
 use mathlib.Core.Path.{_≡_, refl, sym, ap, _∙_}
 use mathlib.Core.Bool.{Bool, true, false}
 use mathlib.Core.List.{List}
-use borrow.Author.Tests.{eq-eqb, ne-eqb}
-use lib.Dec.{ltb, eqb}
+use lib.Dec.{ltb}
 use lib.ListN.{length}
 use Rattle.wire.specs.declared.status.Status.the-variants as status
 use Rattle.cursor_fragment.specs.declared.Parsed.{Parsed}
@@ -12,7 +11,7 @@ use Rattle.cursor_fragment.specs.declared.FragmentAnswer.the-variants.{A
 use Rattle.wire.specs.Checks.{firstOf, accepted}
 use Rattle.cursor_packet.specs.Frame.{typeOf, frameChecks}
 use Rattle.cursor_packet.specs.Rtp.{rtpHolds}
-use Rattle.cursor_fragment.specs.Fragment.{isStart, takesType, fragmentFrame, fragmentChecks, startFragment, continuationFragment, fragmentOf, fragmentStatus, readFragment}
+use Rattle.cursor_fragment.specs.Fragment.{isStart, takesType, fragmentFrame, fragmentChecks, fragmentOf, fragmentStatus, readFragment}
 use Rattle.cursor_fragment.specs.Parsing.{bodyChecks, refusedAs, parsedAs, parsed}
 
 module _ (p : List ℕ) where
@@ -26,17 +25,13 @@ module _ (p : List ℕ) where
     parsed-header h = simp (l, h)
 
     module _ (h : rtpHolds p ≡ true) where
-      pub parsed-start : typeOf p ≡ 2 → parsed p ≡ parsedAs (firstOf (bodyChecks true p)) (startFragment p)
-      unfolding parsed fragmentOf fragmentChecks fragmentFrame frameChecks takesType bodyChecks firstOf
-      parsed-start t = simp (l, h, t)
+      pub parsed-other : takesType (typeOf p) ≡ false → parsed p ≡ refusedAs status.UnknownKind
+      unfolding parsed parsedAs refusedAs fragmentChecks fragmentFrame frameChecks firstOf
+      parsed-other t = simp (l, h, t)
 
-      pub parsed-continuation : typeOf p ≡ 3 → parsed p ≡ parsedAs (firstOf (bodyChecks false p)) (continuationFragment p)
-      unfolding parsed fragmentOf fragmentChecks fragmentFrame frameChecks takesType bodyChecks firstOf
-      parsed-continuation t = simp (l, h, t)
-
-      pub parsed-other : (typeOf p ≡ 2 → ⊥) → (typeOf p ≡ 3 → ⊥) → parsed p ≡ refusedAs status.UnknownKind
-      unfolding parsed parsedAs refusedAs fragmentChecks fragmentFrame frameChecks takesType firstOf
-      parsed-other a b = simp (l, h, ne-eqb _ _ a, ne-eqb _ _ b)
+      pub parsed-body : takesType (typeOf p) ≡ true → parsed p ≡ parsedAs (firstOf (bodyChecks (isStart p) p)) (fragmentOf p)
+      unfolding parsed fragmentChecks fragmentFrame frameChecks bodyChecks firstOf
+      parsed-body t = simp (l, h, t)
 
   -- what a parsed packet says to the reader
   module _ (m : Parsed) (e : m ≡ parsed p) where

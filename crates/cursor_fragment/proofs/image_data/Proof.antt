@@ -12,23 +12,8 @@ use Rattle.cursor_fragment.proofs.Laws.Fragment.{header-small}
 use Rattle.cursor_fragment.proofs.image_data.Statement.{statement}
 use Rattle.cursor_fragment.proofs.image_data.Tie as tie
 
-header-requires : tie.Need-header-requires
-header-requires c κs = search needs
-
 add-from : tie.Need-add-from
 add-from c = omega (arith, c .header .ensures, header-small (c .before .before .args .starts))
-
-sub-result : tie.Need-sub-result
-sub-result c = search needs
-
-part-result-start : tie.Need-part-result-start
-part-result-start c = search needs
-
-part-result-end : tie.Need-part-result-end
-part-result-end c = search needs
-
-slice-aggregate-result : tie.Need-slice-aggregate-result
-slice-aggregate-result c = search needs
 
 returns : tie.Need-returns
 unfolding imageData
@@ -48,11 +33,11 @@ pub image-data-spec : {M : Type 1} → statement M
 image-data-spec =
     tie.close
     (tie.spec
-    header-requires
+    (λ c κs. search needs)
     add-from
-    sub-result
-    part-result-start
-    part-result-end
-    slice-aggregate-result
+    (λ c. search needs)
+    (λ c. search needs)
+    (λ c. search needs)
+    (λ c. search needs)
     returns
     returns-2)

@@ -11,11 +11,8 @@ use Rattle.cursor_fragment.proofs.is_outside.Tie as tie
 returns : tie.Need-returns
 returns c = let a = c .before .args in sym (outside-large (signed 4 (a .place)) (a .length) (a .total) (c .if1 .taken))
 
-least-requires : tie.Need-least-requires
-least-requires c κs = search needs
-
 returns-2 : tie.Need-returns-2
 returns-2 c = let a = c .before .before .args in rw (c .least .ensures) (outside-limit (a .place) (omega arith) (a .length) (a .total) (c .before .if1 .left))
 
 pub is-outside-spec : {M : Type 1} → statement M
-is-outside-spec = tie.close (tie.spec returns least-requires returns-2)
+is-outside-spec = tie.close (tie.spec returns (λ c κs. search needs) returns-2)

@@ -4,12 +4,9 @@ use borrow.Author.Needs.{needs}
 use Rattle.cursor_fragment.proofs.no_fragment.Statement.{statement}
 use Rattle.cursor_fragment.proofs.no_fragment.Tie as tie
 
-none-requires : tie.Need-none-requires
-none-requires c κs = search needs
-
 returns : tie.Need-returns
 unfolding noFragment
 returns c = rw (c .none .ensures)
 
 pub no-fragment-spec : {M : Type 1} → statement M
-no-fragment-spec = tie.close (tie.spec none-requires returns)
+no-fragment-spec = tie.close (tie.spec (λ c κs. search needs) returns)

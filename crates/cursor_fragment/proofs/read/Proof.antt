@@ -7,12 +7,6 @@ use borrow.Author.Needs.{needs}
 use Rattle.cursor_fragment.proofs.read.Statement.{statement}
 use Rattle.cursor_fragment.proofs.read.Tie as tie
 
-parse-requires : tie.Need-parse-requires
-parse-requires c κs = search needs
-
-number-requires : tie.Need-number-requires
-number-requires c κs = search needs
-
 returns : tie.Need-returns
 returns c = let n = c .before in let k = n .before .before in read-as-accepted (now (k .before .before .args .packet)) (k .parse .result) (k .parse .ensures) (eq-eqb _ 0 (sym (n .number .ensures) ∙ c .if1 .taken))
 
@@ -20,4 +14,4 @@ returns-2 : tie.Need-returns-2
 returns-2 c = let n = c .before in let k = n .before .before in read-as-refused (now (k .before .before .args .packet)) (k .parse .result) (k .parse .ensures) (ne-eqb _ 0 (λ e. c .if1 .left (n .number .ensures ∙ e)))
 
 pub read-spec : {M : Type 1} → statement M
-read-spec = tie.close (tie.spec parse-requires number-requires returns returns-2)
+read-spec = tie.close (tie.spec (λ c κs. search needs) (λ c κs. search needs) returns returns-2)

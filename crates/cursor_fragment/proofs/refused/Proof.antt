@@ -4,12 +4,9 @@ use borrow.Author.Needs.{needs}
 use Rattle.cursor_fragment.proofs.refused.Statement.{statement}
 use Rattle.cursor_fragment.proofs.refused.Tie as tie
 
-no-fragment-requires : tie.Need-no-fragment-requires
-no-fragment-requires c κs = search needs
-
 returns : tie.Need-returns
 unfolding refusedAs
 returns c = rw (c .no-fragment .ensures)
 
 pub refused-spec : {M : Type 1} → statement M
-refused-spec = tie.close (tie.spec no-fragment-requires returns)
+refused-spec = tie.close (tie.spec (λ c κs. search needs) returns)

@@ -9,7 +9,7 @@ use Rattle.cursor_picture.specs.declared.Picture.{Picture}
 use Rattle.wire.specs.Laid.{laid}
 use Rattle.little_endian.specs.Layout.{flag}
 use Rattle.little_endian.specs.Little.{bytes}
-use Rattle.cursor_layout.specs.PictureLayout.{startBytes, pictureBytes, pictureOf, PictureReadsBack}
+use Rattle.cursor_layout.specs.PictureLayout.{pictureLength, startBytes, pictureBytes, pictureOf, PictureReadsBack}
 use Rattle.little_endian.proofs.Laws.Layout.{Begins, laid-begins, before, number-in, flag-in}
 
 pub start-length : (seen : Bool) (s : Start) → length (startBytes seen s) ≡ 6
@@ -39,9 +39,9 @@ module _ (q : Picture) where
   abbrev d13 : List ℕ
   d13 = d11 ++ bytes 2 (q .start .«hot_x»)
 
-  picture-begins : (xs : List ℕ) → 15 ≤ length xs → Begins 15 (d13 ++ bytes 2 (q .start .«hot_y»)) (laid (pictureBytes q) xs)
+  picture-begins : (xs : List ℕ) → pictureLength ≤ length xs → Begins pictureLength (d13 ++ bytes 2 (q .start .«hot_y»)) (laid (pictureBytes q) xs)
   unfolding pictureBytes startBytes bytes
-  picture-begins xs h = laid-begins 15 (pictureBytes q) xs refl h
+  picture-begins xs h = laid-begins pictureLength (pictureBytes q) xs refl h
 
 pub picture-reads-back : PictureReadsBack
 unfolding PictureReadsBack pictureOf

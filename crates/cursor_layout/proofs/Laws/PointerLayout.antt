@@ -14,7 +14,7 @@ use Rattle.cursor_pointer.specs.declared.Pointer.{Pointer}
 use Rattle.wire.specs.Laid.{laid}
 use Rattle.little_endian.specs.Layout.{flag}
 use Rattle.little_endian.specs.Little.{bytes}
-use Rattle.cursor_layout.specs.PointerLayout.{pointerBytes, pointerOf, PointerReadsBack}
+use Rattle.cursor_layout.specs.PointerLayout.{pointerLength, pointerBytes, pointerOf, PointerReadsBack}
 use Rattle.little_endian.proofs.Laws.Layout.{Begins, laid-begins, before, number-in, flag-in}
 
 -- two's complement goes back, and two bytes hold it
@@ -45,9 +45,9 @@ module _ (p : Pointer) where
   abbrev d5 : List ℕ
   d5 = d3 ++ bytes 2 (unsigned 2 (p .x))
 
-  pointer-begins : (xs : List ℕ) → 7 ≤ length xs → Begins 7 (d5 ++ bytes 2 (unsigned 2 (p .y))) (laid (pointerBytes p) xs)
+  pointer-begins : (xs : List ℕ) → pointerLength ≤ length xs → Begins pointerLength (d5 ++ bytes 2 (unsigned 2 (p .y))) (laid (pointerBytes p) xs)
   unfolding pointerBytes bytes
-  pointer-begins xs h = laid-begins 7 (pointerBytes p) xs refl h
+  pointer-begins xs h = laid-begins pointerLength (pointerBytes p) xs refl h
 
 pub pointer-reads-back : PointerReadsBack
 unfolding PointerReadsBack pointerOf

@@ -6,9 +6,6 @@ use Rattle.cursor_picture.specs.Picture.{held}
 use Rattle.cursor_picture.proofs.is_held.Statement.{statement}
 use Rattle.cursor_picture.proofs.is_held.Tie as tie
 
-has-room-requires : tie.Need-has-room-requires
-has-room-requires c κs = search needs
-
 returns : tie.Need-returns
 unfolding held
 returns c =
@@ -22,4 +19,4 @@ returns-2 c =
     simp none
 
 pub is-held-spec : {M : Type 1} → statement M
-is-held-spec = tie.close (tie.spec has-room-requires returns returns-2)
+is-held-spec = tie.close (tie.spec (λ c κs. search needs) returns returns-2)

@@ -8,9 +8,6 @@ use Rattle.cursor_pointer.specs.Pointer.{pointerMoves, movedTo}
 use Rattle.cursor_pointer.proofs.moved.Statement.{statement}
 use Rattle.cursor_pointer.proofs.moved.Tie as tie
 
-newer-requires : tie.Need-newer-requires
-newer-requires c κs = search needs
-
 returns : tie.Need-returns
 unfolding movedTo
 returns c =
@@ -26,4 +23,4 @@ returns-2 c =
     simp old
 
 pub moved-spec : {M : Type 1} → statement M
-moved-spec = tie.close (tie.spec newer-requires returns returns-2)
+moved-spec = tie.close (tie.spec (λ c κs. search needs) returns returns-2)

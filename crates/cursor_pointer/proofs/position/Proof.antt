@@ -7,12 +7,6 @@ use Rattle.cursor_pointer.proofs.Laws.Pointer.{positioned-accepted, pos
 use Rattle.cursor_pointer.proofs.position.Statement.{statement}
 use Rattle.cursor_pointer.proofs.position.Tie as tie
 
-take-requires : tie.Need-take-requires
-take-requires c κs = search needs
-
-number-requires : tie.Need-number-requires
-number-requires c κs = search needs
-
 returns : tie.Need-returns
 returns c =
     let n = c .before in
@@ -28,4 +22,4 @@ returns-2 c =
     sym (positioned-refused (a .pointer) (now (a .packet)) (t .take .result) (t .take .ensures) (ne-eqb _ 0 (λ e. c .if1 .left (n .number .ensures ∙ e))))
 
 pub position-spec : {M : Type 1} → statement M
-position-spec = tie.close (tie.spec take-requires number-requires returns returns-2)
+position-spec = tie.close (tie.spec (λ c κs. search needs) (λ c κs. search needs) returns returns-2)

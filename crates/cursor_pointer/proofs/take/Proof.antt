@@ -11,27 +11,12 @@ use borrow.Author.Needs.{needs}
 use Rattle.cursor_pointer.proofs.take.Statement.{statement}
 use Rattle.cursor_pointer.proofs.take.Tie as tie
 
-check-requires : tie.Need-check-requires
-check-requires c κs = search needs
-
-number-requires : tie.Need-number-requires
-number-requires c κs = search needs
-
 returns : tie.Need-returns
 returns c =
     let n = c .before in
     let k = n .before in
     let a = k .before .before .args in
     rw (k .check .ensures) (sym (moved-refused (a .pointer) (now (a .packet)) (ap accepted (sym (k .check .ensures)) ∙ ne-eqb _ 0 (λ e. c .if1 .taken (n .number .ensures ∙ e)))))
-
-fields-requires : tie.Need-fields-requires
-fields-requires c κs = search needs
-
-newer-requires : tie.Need-newer-requires
-newer-requires c κs = search needs
-
-moved-requires : tie.Need-moved-requires
-moved-requires c κs = search needs
 
 fits : (c : tie.After-fields) → SFits w16 (c .fields .result .x) × SFits w16 (c .fields .result .y)
 fits c = (search needs, search needs)
@@ -62,11 +47,11 @@ pub take-spec : {M : Type 1} → statement M
 take-spec =
     tie.close
     (tie.spec
-    check-requires
-    number-requires
+    (λ c κs. search needs)
+    (λ c κs. search needs)
     returns
-    fields-requires
-    newer-requires
-    moved-requires
+    (λ c κs. search needs)
+    (λ c κs. search needs)
+    (λ c κs. search needs)
     returns-2
     returns-3)

@@ -1,29 +1,48 @@
--- The call for starts and continuations in its parts: 17, the packet is read, the fragment is judged and stored; then the pointer. Assumes
+-- The picture's part of the call for starts and continuations in its steps: 17, the packet is read, the fragment is judged and stored. Assumes
 -- nothing.
 use Prim.Native.Nat.{ℕ, _+_, _≤_}
-use mathlib.Core.Path.{_≡_, refl, sym, ap, _∙_}
-use mathlib.Core.Bool.{Bool, true, false}
+use mathlib.Core.Path.{_≡_, sym, ap, _∙_, refl}
+use mathlib.Core.Bool.{Bool, true, false, not, cond, false≢true}
 use mathlib.Core.List.{List}
 use lib.ListN.{length}
 use Rattle.wire.specs.declared.status.Status.{Status}
 use Rattle.wire.specs.declared.status.Status.the-variants as status
-use Rattle.wire.proofs.Laws.Bool.{by-test}
-use Rattle.cursor_fragment.specs.declared.Fragment.{Fragment}
-use Rattle.cursor_fragment.specs.declared.Parsed.{Parsed}
 use Rattle.wire.specs.Checks.{firstOf, accepted}
-use Rattle.cursor_fragment.specs.Fragment.{isStart, imageData, startFragment, continuationFragment, fragmentOf, fragmentStatus, dataOf, DataInside}
+use Rattle.wire.proofs.Laws.Checks.{first-append}
+use Rattle.cursor_fragment.specs.declared.Parsed.{Parsed}
+use Rattle.cursor_fragment.specs.Fragment.{isStart, imageData, fragmentChecks, fragmentOf, fragmentStatus, dataOf, DataInside}
 use Rattle.cursor_fragment.specs.Parsing.{parsedAs, parsed}
-use Rattle.cursor_fragment.specs.Start.{startPosition}
-use Rattle.cursor_fragment.proofs.Laws.Fragment.{starts-is, data-inside}
-use Rattle.cursor_pointer.specs.declared.Pointer.{Pointer}
-use Rattle.cursor_pointer.specs.Pointer.{movedTo}
+use Rattle.cursor_fragment.proofs.Laws.Fragment.{checks-refuse, starts-is, data-inside}
 use Rattle.cursor_picture.specs.declared.Picture.{Picture}
 use Rattle.cursor_picture.specs.Picture.{held}
-use Rattle.cursor_store.specs.declared.storing.Assembled.{Assembled}
-use Rattle.cursor_store.specs.declared.storing.StoreAnswer.the-variants.{Accepted, Refused}
-use Rattle.cursor_store.specs.Storing.{storeResult, pointerAfter, outcome, storeStatus, stored}
-use Rattle.cursor_store.specs.Assembling.{AssembleResult, assembleResult, assembledAs, fragmentAssembled, assembled}
-use Rattle.cursor_store.proofs.Laws.Storing.{store-status}
+use Rattle.cursor_store.specs.Judging.{judging, SequenceIgnored}
+use Rattle.cursor_store.specs.Assembling.{storeChecks, storeStatus, openedFor, clearedFor, imageAfter, marksAfter, withStart, pictureAfter, outcome, assembledAs, fragmentAssembled, assembled, OldFragmentStored}
+use Rattle.cursor_store.proofs.Laws.Judging.{opened-same, sequence-ignored}
+
+pub store-status
+    : (q : Picture) (packet image marks : List ℕ)
+    → storeStatus q packet image marks
+    ≡ cond (not (held q (length image) (length marks))) status.ImageNotHeld
+    (cond (accepted (fragmentStatus packet)) (firstOf (judging q (fragmentOf packet) (dataOf packet) image marks)) (fragmentStatus packet))
+unfolding storeStatus storeChecks firstOf
+store-status q packet image marks = rw (first-append (fragmentChecks (isStart packet) packet) (judging q (fragmentOf packet) (dataOf packet) image marks) (checks-refuse (isStart packet) packet))
+
+-- what an accepted call passed
+passed : (h : Bool) (t j : Status) → accepted (cond (not h) status.ImageNotHeld (cond (accepted t) j t)) ≡ true → (h ≡ true) × (accepted t ≡ true) × (accepted j ≡ true)
+passed h t j e = go h (accepted t) refl e
+  where
+    go : (h b : Bool) → accepted t ≡ b → accepted (cond (not h) status.ImageNotHeld (cond b j t)) ≡ true → (h ≡ true) × (b ≡ true) × (accepted j ≡ true)
+    go true true k e = (refl, refl, e)
+    go true false k e = absurd (false≢true (sym k ∙ e))
+    go false b k e = absurd (false≢true e)
+
+pub store-passed
+    : (q : Picture) (packet image marks : List ℕ) → accepted (storeStatus q packet image marks) ≡ true
+    → (held q (length image) (length marks) ≡ true) × (accepted (fragmentStatus packet) ≡ true)
+    × (accepted (firstOf (judging q (fragmentOf packet) (dataOf packet) image marks)) ≡ true)
+store-passed q packet image marks h =
+    passed (held q (length image) (length marks)) (fragmentStatus packet) (firstOf (judging q (fragmentOf packet) (dataOf packet) image marks))
+    (ap accepted (sym (store-status q packet image marks)) ∙ h)
 
 -- a parsed packet's fragment, where it is accepted
 module _ (packet : List ℕ) (m : Parsed) (e : m ≡ parsed packet) where
@@ -32,24 +51,24 @@ module _ (packet : List ℕ) (m : Parsed) (e : m ≡ parsed packet) where
   parsed-status = ap (λ (x : Parsed). x .status) e
 
   module _ (a : accepted (m .status) ≡ true) where
-    passed : accepted (fragmentStatus packet) ≡ true
-    passed = ap accepted (sym parsed-status) ∙ a
+    well-formed : accepted (fragmentStatus packet) ≡ true
+    well-formed = ap accepted (sym parsed-status) ∙ a
 
     pub parsed-fragment : m .fragment ≡ fragmentOf packet
     unfolding parsed parsedAs
-    parsed-fragment = ap (λ (x : Parsed). x .fragment) e ∙ simp passed
+    parsed-fragment = ap (λ (x : Parsed). x .fragment) e ∙ simp well-formed
 
     pub parsed-data : imageData (m .fragment .starts) packet ≡ dataOf packet
     parsed-data = rw (parsed-fragment, starts-is packet)
 
     pub parsed-inside : m .fragment .offset + length (imageData (m .fragment .starts) packet) ≤ m .fragment .total
     unfolding DataInside
-    parsed-inside = rw (parsed-data, parsed-fragment) (data-inside packet passed)
+    parsed-inside = rw (parsed-data, parsed-fragment) (data-inside packet well-formed)
 
 module _ (q : Picture) (packet image marks : List ℕ) where
   pub assembled-not-held
       : held q (length image) (length marks) ≡ false
-      → assembled q packet image marks ≡ assembleResult (record { status = status.ImageNotHeld; picture = q }) image marks
+      → assembled q packet image marks ≡ outcome (record { status = status.ImageNotHeld; picture = q }) image marks
   unfolding assembled assembledAs
   assembled-not-held h =
       let t : storeStatus q packet image marks ≡ status.ImageNotHeld = store-status q packet image marks ∙ simp h in
@@ -57,7 +76,7 @@ module _ (q : Picture) (packet image marks : List ℕ) where
 
   module _ (h : held q (length image) (length marks) ≡ true) (m : Parsed) (e : m ≡ parsed packet) where
     pub assembled-refused
-        : accepted (m .status) ≡ false → assembled q packet image marks ≡ assembleResult (record { status = m .status; picture = q }) image marks
+        : accepted (m .status) ≡ false → assembled q packet image marks ≡ outcome (record { status = m .status; picture = q }) image marks
     unfolding assembled assembledAs
     assembled-refused a =
         let n : accepted (fragmentStatus packet) ≡ false = ap accepted (sym (parsed-status packet m e)) ∙ a in
@@ -71,42 +90,9 @@ module _ (q : Picture) (packet image marks : List ℕ) where
     assembled-taken a =
         rw (parsed-data packet m e a, parsed-fragment packet m e a)
         (ap (λ (s : Status). assembledAs s q (fragmentOf packet) (dataOf packet) image marks)
-        (store-status q packet image marks ∙ simp (h, passed packet m e a)))
+        (store-status q packet image marks ∙ simp (h, well-formed packet m e a)))
 
--- the pointer after a packet
-module _ (p : Pointer) (packet : List ℕ) where
-  pub pointer-start
-      : isStart packet ≡ true
-      → pointerAfter p (fragmentOf packet) ≡ movedTo p (startPosition packet .sequence) (startPosition packet .x) (startPosition packet .y)
-  unfolding pointerAfter fragmentOf startFragment startPosition
-  pointer-start e = simp e
-
-  pub pointer-other : isStart packet ≡ false → pointerAfter p (fragmentOf packet) ≡ p
-  unfolding pointerAfter fragmentOf continuationFragment
-  pointer-other e = simp e
-
--- the status of what is left is that of the checks
-has-status : (s : Status) (q : Picture) (f : Fragment) (ds image marks : List ℕ) → assembledAs s q f ds image marks .answer .status ≡ s
-unfolding assembledAs
-has-status s q f ds image marks = by-test (λ (x : AssembleResult). x .answer .status ≡ s) (accepted s) _ _ (λ e. refl) (λ e. refl)
-
--- with the pointer: the call as a host sees it
-module _ (p : Pointer) (q : Picture) (packet image marks : List ℕ) (r : Assembled) (bytes filled : List ℕ)
-    (e : assembleResult r bytes filled ≡ assembled q packet image marks) where
-  answer-status : r .status ≡ storeStatus q packet image marks
-  unfolding assembled
-  answer-status = ap (λ (x : AssembleResult). x .answer .status) e ∙ has-status (storeStatus q packet image marks) q (fragmentOf packet) (dataOf packet) image marks
-
-  pub stored-accepted
-      : accepted (r .status) ≡ true
-      → storeResult (Accepted (r .picture) (pointerAfter p (fragmentOf packet))) bytes filled ≡ stored p q packet image marks
-  unfolding assembled assembledAs stored outcome
-  stored-accepted a =
-      let n : accepted (storeStatus q packet image marks) ≡ true = ap accepted (sym answer-status) ∙ a in
-      ap (λ (x : AssembleResult). storeResult (Accepted (x .answer .picture) (pointerAfter p (fragmentOf packet))) (x .image) (x .marks)) e ∙ simp n
-
-  pub stored-refused : accepted (r .status) ≡ false → storeResult (Refused (r .status) 0) bytes filled ≡ stored p q packet image marks
-  unfolding assembled assembledAs stored outcome
-  stored-refused a =
-      let n : accepted (storeStatus q packet image marks) ≡ false = ap accepted (sym answer-status) ∙ a in
-      ap (λ (x : AssembleResult). storeResult (Refused (x .answer .status) 0) (x .image) (x .marks)) e ∙ simp n
+-- a fragment of the opened id, whatever its sequence number
+pub old-fragment-stored : OldFragmentStored
+unfolding OldFragmentStored SequenceIgnored fragmentAssembled assembledAs openedFor clearedFor imageAfter marksAfter withStart pictureAfter
+old-fragment-stored n q f ds image marks h = rw (sequence-ignored n q f ds image marks h) (simp (opened-same n q f, h))

@@ -14,59 +14,53 @@ use Rattle.wire.specs.Checks.{firstOf, accepted}
 use Rattle.cursor_fragment.specs.Fragment.{fragmentOf, dataOf, DataInside}
 use Rattle.cursor_fragment.specs.declared.Fragment.{Fragment}
 use Rattle.cursor_fragment.proofs.Laws.Fragment.{data-inside}
-use Rattle.cursor_pointer.specs.declared.Pointer.{Pointer}
 use Rattle.cursor_picture.specs.declared.Picture.{Picture}
 use Rattle.cursor_picture.proofs.Laws.Picture.{room-says}
-use Rattle.cursor_store.specs.declared.storing.StoreAnswer.the-variants.{Refused}
 use Rattle.cursor_store.specs.Judging.{ofOpened, opens, judging}
-use Rattle.cursor_store.specs.Storing.{storeResult, openedBy, openedFor, clearedFor, imageAfter, marksAfter, withStart, pictureAfter, pointerAfter, outcome, storeStatus, stored}
+use Rattle.cursor_store.specs.Assembling.{storeStatus, openedBy, openedFor, clearedFor, imageAfter, marksAfter, withStart, pictureAfter}
+use Rattle.cursor_store.specs.Storing.{pointerAfter}
 use Rattle.cursor_store.specs.Calls.{State, isAccepted, answered, next, covers, RefusalKeeps, OutsideKept, FormerStaysClosed}
 use Rattle.cursor_store.proofs.Laws.Judging.{judged-room, judged-late}
-use Rattle.cursor_store.proofs.Laws.Storing.{store-passed}
+use Rattle.cursor_store.proofs.Laws.Assembling.{store-passed}
+use Rattle.cursor_store.proofs.Laws.Storing.{stored-refused, stored-accepted}
 
-module _ (t : Status) (p : Pointer) (q : Picture) (f : Fragment) (ds image marks : List ℕ) where
-  refused-is : isAccepted (outcome t p q f ds image marks .answer) ≡ false → outcome t p q f ds image marks ≡ storeResult (Refused t 0) image marks
-  unfolding outcome
-  refused-is h = go (accepted t) refl
+-- what the answer says of the checks
+module _ (s : State) (packet : List ℕ) where
+  abbrev statusOf : Status
+  statusOf = storeStatus (s .picture) packet (s .image) (s .marks)
+
+  not-accepted : accepted statusOf ≡ false → isAccepted (answered s packet .answer) ≡ false
+  not-accepted e = rw (stored-refused (s .pointer) (s .picture) packet (s .image) (s .marks) e)
+
+  is-accepted : accepted statusOf ≡ true → isAccepted (answered s packet .answer) ≡ true
+  is-accepted e = rw (stored-accepted (s .pointer) (s .picture) packet (s .image) (s .marks) e)
+
+  same-verdict : accepted statusOf ≡ isAccepted (answered s packet .answer)
+  same-verdict = go (accepted statusOf) refl
     where
-      go : (b : Bool) → accepted t ≡ b → outcome t p q f ds image marks ≡ storeResult (Refused t 0) image marks
-      go true e = absurd (false≢true (sym h ∙ simp e))
-      go false e = simp e
-
-  not-accepted : accepted t ≡ false → isAccepted (outcome t p q f ds image marks .answer) ≡ false
-  unfolding outcome
-  not-accepted e = simp e
-
-  was-accepted : isAccepted (outcome t p q f ds image marks .answer) ≡ true → accepted t ≡ true
-  unfolding outcome
-  was-accepted h = go (accepted t) refl
-    where
-      go : (b : Bool) → accepted t ≡ b → accepted t ≡ true
-      go true e = e
-      go false e = absurd (false≢true (sym (not-accepted e) ∙ h))
+      go : (b : Bool) → accepted statusOf ≡ b → b ≡ isAccepted (answered s packet .answer)
+      go true e = sym (is-accepted e)
+      go false e = sym (not-accepted e)
 
 pub refusal-keeps : RefusalKeeps
-unfolding RefusalKeeps next stored
-refusal-keeps s packet h =
-    rw (refused-is (storeStatus (s .picture) packet (s .image) (s .marks)) (s .pointer) (s .picture) (fragmentOf packet) (dataOf packet) (s .image) (s .marks) h)
+unfolding RefusalKeeps next
+refusal-keeps s packet h = rw (stored-refused (s .pointer) (s .picture) packet (s .image) (s .marks) (same-verdict s packet ∙ h))
 
 -- an accepted call
 module _ (s : State) (packet : List ℕ) (h : isAccepted (answered s packet .answer) ≡ true) where
-  status-accepted : accepted (storeStatus (s .picture) packet (s .image) (s .marks)) ≡ true
-  unfolding stored
-  status-accepted =
-      was-accepted (storeStatus (s .picture) packet (s .image) (s .marks)) (s .pointer) (s .picture) (fragmentOf packet) (dataOf packet) (s .image) (s .marks) h
+  status-accepted : accepted (statusOf s packet) ≡ true
+  status-accepted = same-verdict s packet ∙ h
 
   next-is
       : next s packet
       ≡ record {
-        pointer = pointerAfter (s .pointer) (fragmentOf packet);
+        pointer = pointerAfter (s .pointer) packet;
         picture = pictureAfter (s .picture) (fragmentOf packet);
         image = imageAfter (fragmentOf packet) (dataOf packet) (s .image);
         marks = marksAfter (s .picture) (fragmentOf packet) (dataOf packet) (s .marks);
       }
-  unfolding next stored outcome
-  next-is = simp status-accepted
+  unfolding next
+  next-is = rw (stored-accepted (s .pointer) (s .picture) packet (s .image) (s .marks) status-accepted)
 
   places : (fragmentOf packet .offset + length (dataOf packet) ≤ fragmentOf packet .total)
       × (fragmentOf packet .total ≤ length (s .image)) × (fragmentOf packet .total ≤ length (s .marks))
@@ -136,7 +130,7 @@ opened-as true f e = (simp e, simp e, simp e)
 opened-as false f e = (simp e, simp e, simp e)
 
 pub former-stays-closed : FormerStaysClosed
-unfolding FormerStaysClosed RefusalKeeps ofOpened openedFor pictureAfter stored
+unfolding FormerStaysClosed RefusalKeeps ofOpened openedFor pictureAfter
 former-stays-closed s opener late h o d n =
     let f = fragmentOf opener in
     let g = fragmentOf late in
@@ -146,8 +140,7 @@ former-stays-closed s opener late h o d n =
     let not-id : ofOpened (s′ .picture) g ≡ false = rw (e, r .0, r .1, ne-eqb (f .id) (g .id) d) in
     let not-newer : opens (s′ .picture) g ≡ false = rw (e, r .0, r .2) n in
     let late-is = judged-late (s′ .picture) g (dataOf late) (s′ .image) (s′ .marks) not-id not-newer in
-    let refused = not-accepted (storeStatus (s′ .picture) late (s′ .image) (s′ .marks)) (s′ .pointer) (s′ .picture) g (dataOf late) (s′ .image) (s′ .marks)
-    (store-stopped (s′ .picture) late (s′ .image) (s′ .marks) late-is) in
+    let refused = not-accepted s′ late (store-stopped (s′ .picture) late (s′ .image) (s′ .marks) late-is) in
     (refused, refusal-keeps s′ late refused)
   where
     store-stopped : (q : Picture) (packet image marks : List ℕ) → accepted (firstOf (judging q (fragmentOf packet) (dataOf packet) image marks)) ≡ false

@@ -18,7 +18,7 @@ use Rattle.scan.specs.Empty.{filledAt}
 use Rattle.scan.specs.Order.{lesser}
 use Rattle.scan.proofs.Laws.Below.{below-none}
 use Rattle.scan.proofs.Laws.Order.{lesser-le}
-use Rattle.wire.specs.Checks.{firstOf}
+use Rattle.wire.specs.Checks.{firstOf, accepted}
 use Rattle.cursor_fragment.specs.Fragment.{isStart, fragmentOf, dataOf, DataInside}
 use Rattle.cursor_fragment.specs.declared.Fragment.{Fragment}
 use Rattle.cursor_fragment.specs.declared.start.Start.{Start}
@@ -32,11 +32,13 @@ use Rattle.cursor_picture.proofs.Laws.Completeness.{all-filled, filled-all}
 use Rattle.cursor_picture.proofs.Laws.Picture.{room-says, held-says}
 use Rattle.cursor_store.specs.declared.storing.StoreAnswer.the-variants.{Accepted}
 use Rattle.cursor_store.specs.Judging.{ofOpened, sameStart, startDiffers, bytesDiffer, openedRules, judging}
-use Rattle.cursor_store.specs.Storing.{storeResult, openedFor, clearedFor, imageAfter, marksAfter, withStart, pictureAfter, pointerAfter, outcome, fragmentStored}
+use Rattle.cursor_store.specs.Assembling.{openedFor, clearedFor, imageAfter, marksAfter, withStart, pictureAfter, outcome}
+use Rattle.cursor_store.specs.Storing.{pointerAfter}
 use Rattle.cursor_store.specs.Calls.{State, Call, fragment, other, isAccepted, answered, next, run, covers, RefusalKeeps}
 use Rattle.cursor_store.specs.DemandThree.{Whole, totalOf, OpenedAs, CutFrom, Taken, StartsHave, Given, covered, started, AllAccepted, SameFragment, Among, Within, SameEnd, DemandThree}
 use Rattle.cursor_store.proofs.Laws.Calls.{refusal-keeps}
-use Rattle.cursor_store.proofs.Laws.Storing.{stored-well}
+use Rattle.cursor_store.proofs.Laws.Assembling.{store-status}
+use Rattle.cursor_store.proofs.Laws.Storing.{stored-accepted}
 
 -- One fragment that is cut from the whole picture.
 
@@ -134,17 +136,19 @@ module _ (w : Whole) (s : State) (a : Start) (o : OpenedAs w s) (u : s .picture 
 
   abbrev then-is : State
   then-is = record {
-    pointer = pointerAfter (s .pointer) f;
+    pointer = pointerAfter (s .pointer) packet;
     picture = withStart f (s .picture);
     image = splice (f .offset) ds (s .image);
     marks = splice (f .offset) (replicate (length ds) 1) (s .marks);
   }
 
-  answer-is : answered s packet ≡ storeResult (Accepted (then-is .picture) (then-is .pointer)) (then-is .image) (then-is .marks)
-  unfolding fragmentStored outcome openedFor clearedFor imageAfter marksAfter pictureAfter
+  answer-is
+      : answered s packet ≡ outcome (Accepted (record { pointer = then-is .pointer; picture = then-is .picture })) (then-is .image) (then-is .marks)
+  unfolding openedFor clearedFor imageAfter marksAfter pictureAfter
   answer-is =
-      stored-well (s .pointer) (s .picture) packet (s .image) (s .marks) (o .clear) (c .well-formed)
-      ∙ simp judged (simp is-opened)
+      stored-accepted (s .pointer) (s .picture) packet (s .image) (s .marks)
+      (ap accepted (store-status (s .picture) packet (s .image) (s .marks)) ∙ simp (o .clear, c .well-formed, judged))
+      ∙ simp is-opened
 
   is-accepted : isAccepted (answered s packet .answer) ≡ true
   is-accepted = rw answer-is
@@ -178,11 +182,11 @@ module _ (w : Whole) (s : State) (a : Start) (o : OpenedAs w s) (u : s .picture 
 
   picture-is : then-is .picture ≡ cond (isStart packet) (seenAs a (s .picture)) (s .picture)
   unfolding withStart
-  picture-is = rw (← starts-is packet) (go (f .starts) refl)
+  picture-is = go (isStart packet) refl
     where
-      go : (b : Bool) → f .starts ≡ b → withStart f (s .picture) ≡ cond b (seenAs a (s .picture)) (s .picture)
-      go true e = simp (e, v (sym (starts-is packet) ∙ e))
-      go false e = simp e
+      go : (b : Bool) → isStart packet ≡ b → withStart f (s .picture) ≡ cond b (seenAs a (s .picture)) (s .picture)
+      go true e = simp (starts-is packet ∙ e, v e)
+      go false e = simp (starts-is packet ∙ e)
 
 module _ (a : Start) (q : Picture) where
   same-opened : (b : Bool) → (cond b (seenAs a q) q .opened ≡ q .opened) × (cond b (seenAs a q) q .id ≡ q .id) × (cond b (seenAs a q) q .total ≡ q .total)
@@ -420,11 +424,12 @@ module _ (w : Whole) (s : State) (o : OpenedAs w s) where
 
   complete-yes : completeness (s .picture) (length (s .image)) (s .marks) ≡ Yes
       ↔ ((s .picture .seen ≡ true) × ((i : ℕ) → i < totalOf w → filledAt (s .marks) i ≡ true))
-  complete-yes = (
+  complete-yes =
+      let r = room-says (totalOf w) (length (s .image)) (length (s .marks)) (rw (← o .same-total) (held-says (s .picture) (length (s .image)) (length (s .marks)) (o .clear) (o .opened))) in (
     λ h.
         let y = yes-is (s .picture .seen) (allFilled (s .marks) (totalOf w)) (sym completeness-is ∙ h) in
         (y .0, filled-all (s .marks) (totalOf w) (y .1)),
-    λ h. completeness-is ∙ simp (h .0, all-filled (s .marks) (totalOf w) (h .1)),
+    λ h. completeness-is ∙ simp (h .0, all-filled (s .marks) (totalOf w) (r .1) (h .1)),
   )
 
 pub demand-three : DemandThree

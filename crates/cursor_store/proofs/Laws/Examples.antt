@@ -15,12 +15,12 @@ use Rattle.scan.specs.Order.{lesser}
 use Rattle.wire.specs.Checks.{firstOf}
 use Rattle.cursor_packet.specs.Frame.{frameChecks}
 use Rattle.cursor_packet.specs.Rtp.{rtpHolds, unusedZero}
-use Rattle.cursor_fragment.specs.Fragment.{takesType, headerLength, imageData, offsetOf, outside, fragmentFrame, fragmentChecks, startFragment, continuationFragment, fragmentOf}
-use Rattle.cursor_fragment.specs.Continuation.{continuationOf, placeOf}
-use Rattle.cursor_fragment.specs.Start.{startOf, noStart}
+use Rattle.cursor_fragment.specs.Fragment.{takesType, headerLength, imageData, offsetBits, placeOf, outside, fragmentFrame, fragmentChecks, fragmentAs}
+use Rattle.cursor_fragment.specs.Start.{startOf, noStart, startIn}
 use Rattle.cursor_picture.specs.Picture.{hasRoom, held}
 use Rattle.cursor_store.specs.Judging.{ofOpened, sameStart, startDiffers, bytesDiffer, openedRules, otherRules, judging}
-use Rattle.cursor_store.specs.Storing.{openedFor, clearedFor, imageAfter, marksAfter, withStart, pictureAfter, outcome, storeChecks, storeStatus, stored}
+use Rattle.cursor_store.specs.Assembling.{storeChecks, storeStatus, openedFor, clearedFor, imageAfter, marksAfter, withStart, pictureAfter, assembledAs, assembled}
+use Rattle.cursor_store.specs.Storing.{stored}
 use Rattle.cursor_store.specs.Calls.{next}
 use Rattle.cursor_store.specs.DemandThree.{OpenedAs, CutFrom, Taken, Agreeing, SameFragments, DemandThree}
 use Rattle.cursor_store.specs.Examples.{whole, opened, start, middle, last, forwards, backwards, PremisesMet, SameFromBoth}
@@ -39,27 +39,27 @@ is-opened = record { opened = refl; same-id = refl; same-total = refl; clear = r
 
 module _ (sequence : ℕ) where
   start-cut : CutFrom whole (start sequence 1)
-  unfolding fragmentChecks fragmentFrame firstOf frameChecks rtpHolds unusedZero number takesType headerLength imageData offsetOf outside fragmentOf startFragment
+  unfolding fragmentChecks fragmentFrame firstOf frameChecks rtpHolds unusedZero number takesType headerLength imageData offsetBits placeOf outside signed fragmentAs
   start-cut = record { well-formed = refl; same-id = refl; same-total = refl; same-bytes = refl }
 
   middle-cut : CutFrom whole (middle sequence)
-  unfolding fragmentChecks fragmentFrame firstOf frameChecks rtpHolds unusedZero number signed takesType headerLength imageData continuationOf offsetOf placeOf outside fragmentOf continuationFragment
+  unfolding fragmentChecks fragmentFrame firstOf frameChecks rtpHolds unusedZero number signed takesType headerLength imageData offsetBits placeOf outside fragmentAs
   middle-cut = record { well-formed = refl; same-id = refl; same-total = refl; same-bytes = refl }
 
   last-cut : CutFrom whole (last sequence)
-  unfolding fragmentChecks fragmentFrame firstOf frameChecks rtpHolds unusedZero number signed takesType headerLength imageData continuationOf offsetOf placeOf outside fragmentOf continuationFragment
+  unfolding fragmentChecks fragmentFrame firstOf frameChecks rtpHolds unusedZero number signed takesType headerLength imageData offsetBits placeOf outside fragmentAs
   last-cut = record { well-formed = refl; same-id = refl; same-total = refl; same-bytes = refl }
 
 forwards-taken : Taken whole opened forwards
-unfolding next stored outcome storeStatus storeChecks held hasRoom judging openedRules otherRules ofOpened sameStart startDiffers bytesDiffer conflictIn someBelow lesser openedFor clearedFor imageAfter marksAfter withStart pictureAfter splice fragmentChecks fragmentFrame firstOf frameChecks rtpHolds unusedZero number signed takesType headerLength imageData startOf noStart continuationOf offsetOf placeOf outside fragmentOf startFragment continuationFragment
+unfolding next stored assembled assembledAs storeStatus storeChecks held hasRoom judging openedRules otherRules ofOpened sameStart startDiffers bytesDiffer conflictIn someBelow lesser openedFor clearedFor imageAfter marksAfter withStart pictureAfter splice fragmentChecks fragmentFrame firstOf frameChecks rtpHolds unusedZero number signed takesType headerLength imageData startOf noStart startIn offsetBits placeOf outside fragmentAs
 forwards-taken = (start-cut 30, (refl, (middle-cut 31, (last-cut 32, (middle-cut 31, tt)))))
 
 backwards-taken : Taken whole opened backwards
-unfolding next stored outcome storeStatus storeChecks held hasRoom judging openedRules otherRules ofOpened sameStart startDiffers bytesDiffer conflictIn someBelow lesser openedFor clearedFor imageAfter marksAfter withStart pictureAfter splice fragmentChecks fragmentFrame firstOf frameChecks rtpHolds unusedZero number signed takesType headerLength imageData startOf noStart continuationOf offsetOf placeOf outside fragmentOf startFragment continuationFragment
+unfolding next stored assembled assembledAs storeStatus storeChecks held hasRoom judging openedRules otherRules ofOpened sameStart startDiffers bytesDiffer conflictIn someBelow lesser openedFor clearedFor imageAfter marksAfter withStart pictureAfter splice fragmentChecks fragmentFrame firstOf frameChecks rtpHolds unusedZero number signed takesType headerLength imageData startOf noStart startIn offsetBits placeOf outside fragmentAs
 backwards-taken = (last-cut 7, (start-cut 39, (refl, (middle-cut 2, (start-cut 39, tt)))))
 
 forwards-agree : Agreeing opened forwards
-unfolding number fragmentOf startFragment startOf
+unfolding number fragmentAs startIn startOf
 forwards-agree = record {
   common = record { «image_type» = 3; «hot_x» = 1; «hot_y» = 2 };
   seen = λ h. absurd (false≢true h);
@@ -67,7 +67,7 @@ forwards-agree = record {
 }
 
 backwards-agree : Agreeing opened backwards
-unfolding number fragmentOf startFragment startOf
+unfolding number fragmentAs startIn startOf
 backwards-agree = record {
   common = record { «image_type» = 3; «hot_x» = 1; «hot_y» = 2 };
   seen = λ h. absurd (false≢true h);
@@ -75,7 +75,7 @@ backwards-agree = record {
 }
 
 same-fragments : SameFragments forwards backwards
-unfolding number fragmentOf startFragment startOf continuationFragment placeOf continuationOf signed imageData headerLength
+unfolding number fragmentAs startIn startOf noStart placeOf offsetBits signed imageData headerLength
 same-fragments = (
   (inr (inl (record { same-type = refl; same-offset = refl; same-data = refl; same-start = refl })), (inr (inr (inl (record { same-type = refl; same-offset = refl; same-data = refl; same-start = refl }))), (inl (record { same-type = refl; same-offset = refl; same-data = refl; same-start = refl }), (inr (inr (inl (record { same-type = refl; same-offset = refl; same-data = refl; same-start = refl }))), tt)))),
   (inr (inr (inl (record { same-type = refl; same-offset = refl; same-data = refl; same-start = refl }))), (inl (record { same-type = refl; same-offset = refl; same-data = refl; same-start = refl }), (inr (inl (record { same-type = refl; same-offset = refl; same-data = refl; same-start = refl })), (inl (record { same-type = refl; same-offset = refl; same-data = refl; same-start = refl }), tt)))),

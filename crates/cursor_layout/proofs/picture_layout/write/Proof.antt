@@ -17,27 +17,6 @@ returns c =
     let a = c .before .before .args in
     sym (laid-short (pictureBytes (a .picture)) (now (a .«record»)) (c .if1 .taken))
 
-cast-put-u8 : tie.Need-cast-put-u8
-cast-put-u8 c = search needs
-
-put-u8-requires : tie.Need-put-u8-requires
-put-u8-requires c κs = search needs
-
-put-u16-requires : tie.Need-put-u16-requires
-put-u16-requires c κs = search needs
-
-put-u32-requires : tie.Need-put-u32-requires
-put-u32-requires c κs = search needs
-
-put-u16-requires-2 : tie.Need-put-u16-requires-2
-put-u16-requires-2 c κs = search needs
-
-write-start-requires : tie.Need-write-start-requires
-write-start-requires c κs = search needs
-
-same-length : tie.Need-same-length
-same-length c = search needs
-
 returns-2 : tie.Need-returns-2
 unfolding pictureBytes
 returns-2 c =
@@ -59,11 +38,11 @@ write-spec =
     tie.close
     (tie.spec
     returns
-    cast-put-u8
-    put-u8-requires
-    put-u16-requires
-    put-u32-requires
-    put-u16-requires-2
-    write-start-requires
-    same-length
+    (λ c. search needs)
+    (λ c κs. search needs)
+    (λ c κs. search needs)
+    (λ c κs. search needs)
+    (λ c κs. search needs)
+    (λ c κs. search needs)
+    (λ c. search needs)
     returns-2)

@@ -6,24 +6,6 @@ use borrow.Author.Needs.{needs}
 use Rattle.cursor_layout.proofs.pointer_layout.read.Statement.{statement}
 use Rattle.cursor_layout.proofs.pointer_layout.read.Tie as tie
 
-u8-at-requires : tie.Need-u8-at-requires
-u8-at-requires c κs = search needs
-
-u16-at-requires : tie.Need-u16-at-requires
-u16-at-requires c κs = search needs
-
-u16-at-requires-2 : tie.Need-u16-at-requires-2
-u16-at-requires-2 c κs = search needs
-
-signed16-requires : tie.Need-signed16-requires
-signed16-requires c κs = search needs
-
-u16-at-requires-3 : tie.Need-u16-at-requires-3
-u16-at-requires-3 c κs = search needs
-
-signed16-requires-2 : tie.Need-signed16-requires-2
-signed16-requires-2 c κs = search needs
-
 returns : tie.Need-returns
 unfolding pointerOf
 returns c =
@@ -35,10 +17,10 @@ pub read-spec : {M : Type 1} → statement M
 read-spec =
     tie.close
     (tie.spec
-    u8-at-requires
-    u16-at-requires
-    u16-at-requires-2
-    signed16-requires
-    u16-at-requires-3
-    signed16-requires-2
+    (λ c κs. search needs)
+    (λ c κs. search needs)
+    (λ c κs. search needs)
+    (λ c κs. search needs)
+    (λ c κs. search needs)
+    (λ c κs. search needs)
     returns)

@@ -20,30 +20,6 @@ returns c =
     let a = c .before .before .args in
     sym (laid-short (pointerBytes (a .pointer)) (now (a .«record»)) (c .if1 .taken))
 
-cast-put-u8 : tie.Need-cast-put-u8
-cast-put-u8 c = search needs
-
-put-u8-requires : tie.Need-put-u8-requires
-put-u8-requires c κs = search needs
-
-put-u16-requires : tie.Need-put-u16-requires
-put-u16-requires c κs = search needs
-
-unsigned16-requires : tie.Need-unsigned16-requires
-unsigned16-requires c κs = search needs
-
-put-u16-requires-2 : tie.Need-put-u16-requires-2
-put-u16-requires-2 c κs = search needs
-
-unsigned16-requires-2 : tie.Need-unsigned16-requires-2
-unsigned16-requires-2 c κs = search needs
-
-put-u16-requires-3 : tie.Need-put-u16-requires-3
-put-u16-requires-3 c κs = search needs
-
-same-length : tie.Need-same-length
-same-length c = search needs
-
 x-fits : (c : tie.After-struct-told) → SFits w16 (c .before .before .before .before .before .before .before .before .before .before .before .before .before .args .pointer .x)
 x-fits c = search needs
 
@@ -70,12 +46,12 @@ write-spec =
     tie.close
     (tie.spec
     returns
-    cast-put-u8
-    put-u8-requires
-    put-u16-requires
-    unsigned16-requires
-    put-u16-requires-2
-    unsigned16-requires-2
-    put-u16-requires-3
-    same-length
+    (λ c. search needs)
+    (λ c κs. search needs)
+    (λ c κs. search needs)
+    (λ c κs. search needs)
+    (λ c κs. search needs)
+    (λ c κs. search needs)
+    (λ c κs. search needs)
+    (λ c. search needs)
     returns-2)

@@ -11,32 +11,17 @@ returns : tie.Need-returns
 unfolding positionChecks frameChecks firstOf
 returns c = simp (lt-ltb _ 15 (c .if1 .taken))
 
-holds-requires : tie.Need-holds-requires
-holds-requires c κs = search needs
-
 returns-2 : tie.Need-returns-2
 unfolding positionChecks frameChecks firstOf
 returns-2 c = simp (le-ltb _ _ (c .before .before .if1 .left), ← c .before .holds .ensures, c .if2 .taken)
-
-u8-at-requires : tie.Need-u8-at-requires
-u8-at-requires c κs = search needs
 
 returns-3 : tie.Need-returns-3
 unfolding positionChecks frameChecks firstOf
 returns-3 c = let k = c .before in let h = k .before .before in simp (le-ltb _ _ (h .before .if1 .left), ← h .holds .ensures, k .before .if2 .left, ← k .u8-at .ensures, ne-eqb _ _ (c .if3 .taken))
 
-u16-at-requires : tie.Need-u16-at-requires
-u16-at-requires c κs = search needs
-
 returns-4 : tie.Need-returns-4
 unfolding positionChecks frameChecks firstOf
 returns-4 c = let u = c .before in let k = u .before .before in let h = k .before .before in simp (le-ltb _ _ (h .before .if1 .left), ← h .holds .ensures, k .before .if2 .left, ← k .u8-at .ensures, eq-eqb _ _ (u .before .if3 .left), ← u .u16-at .ensures, ne-eqb _ _ (c .if4 .taken))
-
-cast-end : tie.Need-cast-end
-cast-end c = search needs
-
-add-end : tie.Need-add-end
-add-end c = search needs
 
 returns-5 : tie.Need-returns-5
 unfolding positionChecks frameChecks firstOf
@@ -55,14 +40,14 @@ check-spec =
     tie.close
     (tie.spec
     returns
-    holds-requires
+    (λ c κs. search needs)
     returns-2
-    u8-at-requires
+    (λ c κs. search needs)
     returns-3
-    u16-at-requires
+    (λ c κs. search needs)
     returns-4
-    cast-end
-    add-end
+    (λ c. search needs)
+    (λ c. search needs)
     returns-5
     returns-6
     returns-7)

@@ -5,15 +5,6 @@ use borrow.Author.Needs.{needs}
 use Rattle.cursor_packet.proofs.position.read.Statement.{statement}
 use Rattle.cursor_packet.proofs.position.read.Tie as tie
 
-check-requires : tie.Need-check-requires
-check-requires c κs = search needs
-
-number-requires : tie.Need-number-requires
-number-requires c κs = search needs
-
-fields-requires : tie.Need-fields-requires
-fields-requires c κs = search needs
-
 returns : tie.Need-returns
 unfolding readPosition
 returns c = let n = c .before .before in simp (← n .before .check .ensures, ← n .number .ensures, eq-eqb _ _ (c .before .if1 .taken), ← c .fields .ensures)
@@ -23,4 +14,4 @@ unfolding readPosition
 returns-2 c = let n = c .before in simp (← n .before .check .ensures, ← n .number .ensures, ne-eqb _ _ (c .if1 .left))
 
 pub read-spec : {M : Type 1} → statement M
-read-spec = tie.close (tie.spec check-requires number-requires fields-requires returns returns-2)
+read-spec = tie.close (tie.spec (λ c κs. search needs) (λ c κs. search needs) (λ c κs. search needs) returns returns-2)

@@ -9,12 +9,6 @@ returns : tie.Need-returns
 unfolding rtpHolds
 returns c = simp (lt-leb 12 _ (c .if1 .taken))
 
-u16-at-requires : tie.Need-u16-at-requires
-u16-at-requires c κs = search needs
-
-unused-zero-requires : tie.Need-unused-zero-requires
-unused-zero-requires c κs = search needs
-
 returns-2 : tie.Need-returns-2
 unfolding rtpHolds
 returns-2 c =
@@ -28,4 +22,4 @@ returns-3 c = simp (le-leb 12 _ (c .before .before .if1 .left), ← c .before .u
 pub holds-spec : {M : Type 1} → statement M
 holds-spec =
     tie.close
-    (tie.spec returns u16-at-requires unused-zero-requires returns-2 returns-3)
+    (tie.spec returns (λ c κs. search needs) (λ c κs. search needs) returns-2 returns-3)

@@ -4,12 +4,9 @@ use Rattle.cursor_packet.specs.Rtp.{rtpOf}
 use Rattle.cursor_packet.proofs.rtp.read.Statement.{statement}
 use Rattle.cursor_packet.proofs.rtp.read.Tie as tie
 
-u16-at-requires : tie.Need-u16-at-requires
-u16-at-requires c κs = search needs
-
 returns : tie.Need-returns
 unfolding rtpOf
 returns c = rw (c .u16-at .ensures)
 
 pub read-spec : {M : Type 1} → statement M
-read-spec = tie.close (tie.spec u16-at-requires returns)
+read-spec = tie.close (tie.spec (λ c κs. search needs) returns)

@@ -5,12 +5,6 @@ use Rattle.cursor_packet.specs.Rtp.{unusedZero}
 use Rattle.cursor_packet.proofs.rtp.unused_zero.Statement.{statement}
 use Rattle.cursor_packet.proofs.rtp.unused_zero.Tie as tie
 
-u32-at-requires : tie.Need-u32-at-requires
-u32-at-requires c κs = search needs
-
-u32-at-requires-2 : tie.Need-u32-at-requires-2
-u32-at-requires-2 c κs = search needs
-
 returns : tie.Need-returns
 unfolding unusedZero
 returns c = simp (← c .before .before .u32-at .ensures, ← c .u32-at2 .ensures, eq-eqb _ _ (c .before .if1 .taken))
@@ -20,4 +14,4 @@ unfolding unusedZero
 returns-2 c = simp (← c .before .u32-at .ensures, ne-eqb _ _ (c .if1 .left))
 
 pub unused-zero-spec : {M : Type 1} → statement M
-unused-zero-spec = tie.close (tie.spec u32-at-requires u32-at-requires-2 returns returns-2)
+unused-zero-spec = tie.close (tie.spec (λ c κs. search needs) (λ c κs. search needs) returns returns-2)

@@ -4,12 +4,9 @@ use Rattle.cursor_picture.specs.Picture.{freshPicture}
 use Rattle.cursor_picture.proofs.Picture.fresh.Statement.{statement}
 use Rattle.cursor_picture.proofs.Picture.fresh.Tie as tie
 
-none-requires : tie.Need-none-requires
-none-requires c κs = search needs
-
 returns : tie.Need-returns
 unfolding freshPicture
 returns c = rw (c .none .ensures)
 
 pub fresh-spec : {M : Type 1} → statement M
-fresh-spec = tie.close (tie.spec none-requires returns)
+fresh-spec = tie.close (tie.spec (λ c κs. search needs) returns)

@@ -1,27 +1,21 @@
 -- One test for each of the definition's. Assumes nothing.
 use mathlib.Core.Path.{_≡_, sym, _∙_}
-use mathlib.Core.Bool.{true}
+use mathlib.Core.Bool.{true, false}
 use lib.ListN.{length}
 use denote.Ref.{now}
-use borrow.Author.Tests.{not-true, not-false}
+use borrow.Author.Tests.{eq-eqb, ne-eqb, not-true, not-false}
 use borrow.Author.Needs.{needs}
-use Rattle.cursor_picture.specs.Completeness.{completeness}
+use Rattle.cursor_picture.specs.Completeness.{firstEmptyOf, allFilled, completeness}
 use Rattle.cursor_picture.proofs.Laws.Picture.{room-says, held-says}
 use Rattle.cursor_picture.proofs.completeness.complete.Statement.{statement}
 use Rattle.cursor_picture.proofs.completeness.complete.Tie as tie
-
-is-held-requires : tie.Need-is-held-requires
-is-held-requires c κs = search needs
 
 returns : tie.Need-returns
 unfolding completeness
 returns c = simp (sym (c .before .is-held .ensures) ∙ not-true _ (c .if1 .taken))
 
-cast-all-filled : tie.Need-cast-all-filled
-cast-all-filled c = search needs
-
-all-filled-requires : tie.Need-all-filled-requires
-all-filled-requires c κs =
+first-empty-requires : tie.Need-first-empty-requires
+first-empty-requires c κs =
     let o = c .before .before in
     let h = o .before .before in
     let a = h .before .before .before .args in
@@ -36,8 +30,11 @@ returns-2 c =
     let s = f .before .before in
     let o = s .before in
     let h = o .before .before in
-    let seen : h .before .before .before .args .picture .seen ≡ true = s .if3 .taken in
-    simp (sym (h .is-held .ensures) ∙ not-false _ (o .before .if1 .left), o .if2 .taken, seen, sym (f .all-filled .ensures) ∙ c .if4 .taken)
+    let a = h .before .before .before .args in
+    let seen : a .picture .seen ≡ true = s .if3 .taken in
+    let full : allFilled (now (a .marks)) (a .picture .total) ≡ true
+    = eq-eqb (firstEmptyOf (now (a .marks)) (a .picture .total)) (a .picture .total) (sym (f .first-empty .ensures) ∙ c .if4 .taken) in
+    simp (sym (h .is-held .ensures) ∙ not-false _ (o .before .if1 .left), o .if2 .taken, seen, full)
 
 returns-3 : tie.Need-returns-3
 unfolding completeness
@@ -45,7 +42,11 @@ returns-3 c =
     let f = c .before in
     let s = f .before .before in
     let o = s .before in
-    simp (sym (o .before .before .is-held .ensures) ∙ not-false _ (o .before .if1 .left), o .if2 .taken, s .if3 .taken, sym (f .all-filled .ensures) ∙ c .if4 .left)
+    let h = o .before .before in
+    let a = h .before .before .before .args in
+    let empty : allFilled (now (a .marks)) (a .picture .total) ≡ false
+    = ne-eqb (firstEmptyOf (now (a .marks)) (a .picture .total)) (a .picture .total) (λ e. c .if4 .left (f .first-empty .ensures ∙ e)) in
+    simp (sym (h .is-held .ensures) ∙ not-false _ (o .before .if1 .left), o .if2 .taken, s .if3 .taken, empty)
 
 returns-4 : tie.Need-returns-4
 unfolding completeness
@@ -59,10 +60,10 @@ pub complete-spec : {M : Type 1} → statement M
 complete-spec =
     tie.close
     (tie.spec
-    is-held-requires
+    (λ c κs. search needs)
     returns
-    cast-all-filled
-    all-filled-requires
+    (λ c. search needs)
+    first-empty-requires
     returns-2
     returns-3
     returns-4

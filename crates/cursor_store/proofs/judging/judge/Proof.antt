@@ -11,15 +11,9 @@ use Rattle.cursor_store.specs.Judging.{judging}
 use Rattle.cursor_store.proofs.judging.judge.Statement.{statement}
 use Rattle.cursor_store.proofs.judging.judge.Tie as tie
 
-has-room-requires : tie.Need-has-room-requires
-has-room-requires c κs = search needs
-
 returns : tie.Need-returns
 unfolding firstOf judging
 returns c = simp (← c .before .has-room .ensures, c .if1 .taken)
-
-of-opened-requires : tie.Need-of-opened-requires
-of-opened-requires c κs = search needs
 
 judge-opened-requires : tie.Need-judge-opened-requires
 judge-opened-requires c κs =
@@ -37,9 +31,6 @@ returns-2 c =
     let r = o .before .before in
     simp (← r .has-room .ensures, o .before .if1 .left, ← o .of-opened .ensures, c .before .if2 .taken) (c .judge-opened .ensures)
 
-judge-other-requires : tie.Need-judge-other-requires
-judge-other-requires c κs = search needs
-
 returns-3 : tie.Need-returns-3
 unfolding firstOf judging
 returns-3 c =
@@ -51,10 +42,10 @@ pub judge-spec : {M : Type 1} → statement M
 judge-spec =
     tie.close
     (tie.spec
-    has-room-requires
+    (λ c κs. search needs)
     returns
-    of-opened-requires
+    (λ c κs. search needs)
     judge-opened-requires
     returns-2
-    judge-other-requires
+    (λ c κs. search needs)
     returns-3)

@@ -14,15 +14,9 @@ returns : tie.Need-returns
 unfolding firstOf openedRules
 returns c = simp (ne-eqb _ _ (c .if1 .taken))
 
-start-differs-requires : tie.Need-start-differs-requires
-start-differs-requires c κs = search needs
-
 returns-2 : tie.Need-returns-2
 unfolding firstOf openedRules
 returns-2 c = let s = c .before in simp (eq-eqb _ _ (s .before .if1 .left), ← s .start-differs .ensures, c .if2 .taken)
-
-bytes-differ-requires : tie.Need-bytes-differ-requires
-bytes-differ-requires c κs = search needs
 
 returns-3 : tie.Need-returns-3
 unfolding firstOf openedRules
@@ -47,4 +41,4 @@ returns-4 c =
 pub judge-opened-spec : {M : Type 1} → statement M
 judge-opened-spec =
     tie.close
-    (tie.spec returns start-differs-requires returns-2 bytes-differ-requires returns-3 returns-4)
+    (tie.spec returns (λ c κs. search needs) returns-2 (λ c κs. search needs) returns-3 returns-4)

@@ -8,9 +8,6 @@ use Rattle.cursor_store.specs.Judging.{opens, otherRules}
 use Rattle.cursor_store.proofs.judging.judge_other.Statement.{statement}
 use Rattle.cursor_store.proofs.judging.judge_other.Tie as tie
 
-newer-requires : tie.Need-newer-requires
-newer-requires c κs = search needs
-
 returns : tie.Need-returns
 unfolding firstOf otherRules
 returns c =
@@ -27,4 +24,4 @@ returns-2 c =
     simp old
 
 pub judge-other-spec : {M : Type 1} → statement M
-judge-other-spec = tie.close (tie.spec newer-requires returns returns-2)
+judge-other-spec = tie.close (tie.spec (λ c κs. search needs) returns returns-2)

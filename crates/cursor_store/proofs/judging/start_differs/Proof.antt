@@ -4,9 +4,6 @@ use Rattle.cursor_store.specs.Judging.{startDiffers}
 use Rattle.cursor_store.proofs.judging.start_differs.Statement.{statement}
 use Rattle.cursor_store.proofs.judging.start_differs.Tie as tie
 
-same-start-requires : tie.Need-same-start-requires
-same-start-requires c κs = search needs
-
 returns : tie.Need-returns
 unfolding startDiffers
 returns c = let i = c .before .before .before in simp (i .before .if1 .taken, i .if2 .taken, ← c .same-start .ensures)
@@ -20,4 +17,4 @@ unfolding startDiffers
 returns-3 c = simp (c .if1 .left)
 
 pub start-differs-spec : {M : Type 1} → statement M
-start-differs-spec = tie.close (tie.spec same-start-requires returns returns-2 returns-3)
+start-differs-spec = tie.close (tie.spec (λ c κs. search needs) returns returns-2 returns-3)

@@ -7,20 +7,11 @@ use borrow.Author.Needs.{needs}
 use Rattle.cursor_store.proofs.storing.assemble.Statement.{statement}
 use Rattle.cursor_store.proofs.storing.assemble.Tie as tie
 
-is-held-requires : tie.Need-is-held-requires
-is-held-requires c κs = search needs
-
 returns : tie.Need-returns
 returns c =
     let h = c .before in
     let a = h .before .before .before .before .args in
     sym (assembled-not-held (a .picture) (now (a .packet)) (now (a .image)) (now (a .marks)) (sym (h .is-held .ensures) ∙ not-true _ (c .if1 .taken)))
-
-parse-requires : tie.Need-parse-requires
-parse-requires c κs = search needs
-
-number-requires : tie.Need-number-requires
-number-requires c κs = search needs
 
 returns-2 : tie.Need-returns-2
 returns-2 c =
@@ -30,9 +21,6 @@ returns-2 c =
     let a = h .before .before .before .before .args in
     sym (assembled-refused (a .picture) (now (a .packet)) (now (a .image)) (now (a .marks)) (sym (h .is-held .ensures) ∙ not-false _ (k .before .if1 .left)) (k .parse .result) (k .parse .ensures) (ne-eqb _ 0 (λ e. c .if2 .taken (n .number .ensures ∙ e))))
 
-image-data-requires : tie.Need-image-data-requires
-image-data-requires c κs = search needs
-
 take-requires : tie.Need-take-requires
 take-requires c κs =
     let d = c .before .before in
@@ -40,12 +28,6 @@ take-requires c κs =
     let k = n .before .before in
     let a = k .before .before .before .before .before .before .args in
     rw (d .image-data .ensures) (parsed-inside (now (a .packet)) (k .parse .result) (k .parse .ensures) (eq-eqb _ 0 (sym (n .number .ensures) ∙ d .before .if2 .left)))
-
-same-length : tie.Need-same-length
-same-length c = search needs
-
-same-length-2 : tie.Need-same-length-2
-same-length-2 c = search needs
 
 returns-3 : tie.Need-returns-3
 returns-3 c =
@@ -61,13 +43,13 @@ pub assemble-spec : {M : Type 1} → statement M
 assemble-spec =
     tie.close
     (tie.spec
-    is-held-requires
+    (λ c κs. search needs)
     returns
-    parse-requires
-    number-requires
+    (λ c κs. search needs)
+    (λ c κs. search needs)
     returns-2
-    image-data-requires
+    (λ c κs. search needs)
     take-requires
-    same-length
-    same-length-2
+    (λ c. search needs)
+    (λ c. search needs)
     returns-3)

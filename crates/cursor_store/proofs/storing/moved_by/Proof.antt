@@ -3,19 +3,10 @@ use mathlib.Core.Path.{sym, _∙_}
 use denote.Ref.{now}
 use mir.Syntax.{w16}
 use mir.ValLaws.{toZ-ofZ}
-use Rattle.cursor_store.proofs.Laws.Assembling.{pointer-start, pointer-other}
+use Rattle.cursor_store.proofs.Laws.Storing.{pointer-start, pointer-other}
 use borrow.Author.Needs.{needs}
 use Rattle.cursor_store.proofs.storing.moved_by.Statement.{statement}
 use Rattle.cursor_store.proofs.storing.moved_by.Tie as tie
-
-is-start-requires : tie.Need-is-start-requires
-is-start-requires c κs = search needs
-
-position-requires : tie.Need-position-requires
-position-requires c κs = search needs
-
-moved-requires : tie.Need-moved-requires
-moved-requires c κs = search needs
 
 returns : tie.Need-returns
 returns c =
@@ -34,4 +25,4 @@ returns-2 c =
 
 pub moved-by-spec : {M : Type 1} → statement M
 moved-by-spec =
-    tie.close (tie.spec is-start-requires position-requires moved-requires returns returns-2)
+    tie.close (tie.spec (λ c κs. search needs) (λ c κs. search needs) (λ c κs. search needs) returns returns-2)

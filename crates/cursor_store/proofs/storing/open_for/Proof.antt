@@ -8,37 +8,13 @@ use lib.ListN.{replicate, length-replicate}
 use borrow.Rule.Slice.PartMut.{putMid}
 use Rattle.wire.specs.Splice.{splice}
 use Rattle.wire.proofs.Laws.Splice.{length-part, part-back}
-use Rattle.cursor_store.specs.Storing.{openedFor, clearedFor}
+use Rattle.cursor_store.specs.Assembling.{openedFor, clearedFor}
 use Rattle.cursor_store.proofs.storing.open_for.Statement.{statement}
 use Rattle.cursor_store.proofs.storing.open_for.Tie as tie
-
-of-opened-requires : tie.Need-of-opened-requires
-of-opened-requires c κs = search needs
 
 returns : tie.Need-returns
 unfolding openedFor clearedFor
 returns c = let e = sym (c .before .of-opened .ensures) ∙ c .if1 .taken in (simp e, simp e)
-
-cast-total : tie.Need-cast-total
-cast-total c = search needs
-
-sub-fill : tie.Need-sub-fill
-sub-fill c = search needs
-
-part-fill-start : tie.Need-part-fill-start
-part-fill-start c = search needs
-
-part-fill-end : tie.Need-part-fill-end
-part-fill-end c = search needs
-
-fill-requires : tie.Need-fill-requires
-fill-requires c κs = search needs
-
-opened-by-requires : tie.Need-opened-by-requires
-opened-by-requires c κs = search needs
-
-same-length : tie.Need-same-length
-same-length c = search needs
 
 returns-2 : tie.Need-returns-2
 unfolding openedFor clearedFor
@@ -58,13 +34,13 @@ pub open-for-spec : {M : Type 1} → statement M
 open-for-spec =
     tie.close
     (tie.spec
-    of-opened-requires
+    (λ c κs. search needs)
     returns
-    cast-total
-    sub-fill
-    part-fill-start
-    part-fill-end
-    fill-requires
-    opened-by-requires
-    same-length
+    (λ c. search needs)
+    (λ c. search needs)
+    (λ c. search needs)
+    (λ c. search needs)
+    (λ c κs. search needs)
+    (λ c κs. search needs)
+    (λ c. search needs)
     returns-2)

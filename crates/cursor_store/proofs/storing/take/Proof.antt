@@ -6,24 +6,11 @@ use denote.Ref.{now}
 use borrow.Author.Tests.{eq-eqb, ne-eqb}
 use Rattle.wire.specs.Checks.{accepted}
 use Rattle.cursor_picture.proofs.Laws.Picture.{room-says}
-use Rattle.cursor_store.specs.Storing.{imageAfter, marksAfter, pictureAfter}
-use Rattle.cursor_store.specs.Assembling.{fragmentAssembled, assembledAs}
+use Rattle.cursor_store.specs.Assembling.{imageAfter, marksAfter, pictureAfter, assembledAs, fragmentAssembled}
 use Rattle.cursor_store.proofs.Laws.Judging.{judged-room}
 use borrow.Author.Needs.{needs}
 use Rattle.cursor_store.proofs.storing.take.Statement.{statement}
 use Rattle.cursor_store.proofs.storing.take.Tie as tie
-
-judge-requires : tie.Need-judge-requires
-judge-requires c κs = search needs
-
-number-requires : tie.Need-number-requires
-number-requires c κs = search needs
-
-same-length : tie.Need-same-length
-same-length c = search needs
-
-same-length-2 : tie.Need-same-length-2
-same-length-2 c = search needs
 
 returns : tie.Need-returns
 unfolding fragmentAssembled assembledAs
@@ -48,15 +35,6 @@ put-requires c κs =
     let r = room-says (a .fragment .total) (length (now (a .image))) (length (now (a .marks))) h in
     (omega (arith, r .0, s .pre), omega (arith, r .1, s .pre))
 
-with-start-requires : tie.Need-with-start-requires
-with-start-requires c κs = search needs
-
-same-length-3 : tie.Need-same-length-3
-same-length-3 c = search needs
-
-same-length-4 : tie.Need-same-length-4
-same-length-4 c = search needs
-
 returns-2 : tie.Need-returns-2
 unfolding fragmentAssembled assembledAs imageAfter marksAfter pictureAfter
 returns-2 c =
@@ -71,14 +49,14 @@ pub take-spec : {M : Type 1} → statement M
 take-spec =
     tie.close
     (tie.spec
-    judge-requires
-    number-requires
-    same-length
-    same-length-2
+    (λ c κs. search needs)
+    (λ c κs. search needs)
+    (λ c. search needs)
+    (λ c. search needs)
     returns
     open-for-requires
     put-requires
-    with-start-requires
-    same-length-3
-    same-length-4
+    (λ c κs. search needs)
+    (λ c. search needs)
+    (λ c. search needs)
     returns-2)

@@ -1,5 +1,5 @@
 -- Only a start's fields are kept. Assumes nothing.
-use Rattle.cursor_store.specs.Storing.{withStart}
+use Rattle.cursor_store.specs.Assembling.{withStart}
 use Rattle.cursor_store.proofs.storing.with_start.Statement.{statement}
 use Rattle.cursor_store.proofs.storing.with_start.Tie as tie
 
