@@ -1,6 +1,6 @@
 // What the calls for hosts answer: the status (0 accepted, else the refusal number of 01), and what belongs to it.
 ghost use mathlib.Core.Path.{_≡_};
-ghost use Rattle.host_answers.specs.Answers.{accepted, refused};
+ghost use Rattle.host_answers.specs.Answers.{accepted, refused, notWritten, notAnswered};
 ghost use Rattle.host_answers.specs.Fresh.{freshAnswer};
 use wire::status;
 use wire::status::Status;
@@ -56,6 +56,26 @@ pub fn refuse(status: Status, place: usize) -> Answer
     Answer {
         status: status::number(status),
         place,
+    }
+}
+
+// Of a writer that refuses.
+pub fn not_written(status: Status) -> Written
+    ensures { λ r. ⌜ r ≡ notWritten status ⌝ }
+{
+    Written {
+        status: status::number(status),
+        size: 0,
+    }
+}
+
+// Of a question that is refused.
+pub fn not_answered(status: Status) -> Yes
+    ensures { λ r. ⌜ r ≡ notAnswered status ⌝ }
+{
+    Yes {
+        status: status::number(status),
+        yes: false,
     }
 }
 

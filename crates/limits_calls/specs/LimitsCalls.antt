@@ -5,9 +5,7 @@ use mathlib.Core.List.{List}
 use mathlib.Core.Bool.{cond}
 use lib.Dec.{ltb}
 use lib.ListN.{length}
-use Rattle.wire.specs.declared.status.Status.{Status}
 use Rattle.wire.specs.declared.status.Status.the-variants as status
-use Rattle.wire.specs.Status.{numberOf}
 use Rattle.cursor_limits.specs.declared.value.Answer.{Answer as ReaderAnswer}
 use Rattle.cursor_limits.specs.declared.value.Answer.the-variants as reader
 use Rattle.cursor_limits.specs.declared.value.Written.{Written as WriterAnswer}
@@ -18,7 +16,7 @@ use Rattle.cursor_limits.specs.Writing.{spelling, writeAnswer}
 use Rattle.limits_layout.specs.LimitsLayout.{limitsBytes, limitsIn}
 use Rattle.host_answers.specs.declared.Answer.{Answer}
 use Rattle.host_answers.specs.declared.Written.{Written}
-use Rattle.host_answers.specs.Answers.{accepted, refused, short}
+use Rattle.host_answers.specs.Answers.{accepted, refused, short, wrote, notWritten}
 
 -- ---- Reading
 
@@ -40,11 +38,8 @@ readRecord s xs = recordOf (readValue s) xs
 
 -- ---- Writing
 
-abbrev pub notWritten : Status → Written
-notWritten st = record { status = numberOf st; size = 0 }
-
 abbrev pub writtenOf : WriterAnswer → Written
-writtenOf (writer.Accepted n) = record { status = 0; size = n }
+writtenOf (writer.Accepted n) = wrote n
 writtenOf (writer.Refused st place) = notWritten st
 
 -- 10 where the record is short, else what the writer answers for the record

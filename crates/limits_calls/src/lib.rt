@@ -5,8 +5,8 @@ use cursor_limits::value;
 use host_answers::Answer;
 use host_answers::Written;
 use host_answers::accept;
+use host_answers::not_written;
 use host_answers::refuse;
-use wire::status;
 use wire::status::Status;
 
 // Reads a value, which is all of the lent text, into the record.
@@ -32,16 +32,10 @@ pub fn write(record: &[u8], out: &mut [u8]) -> Written
     ensures after { λ _. ⌜ now (out .exit) ≡ limitsOutput (now («record» .entry)) (now (out .entry)) ⌝ }
 {
     if record.len() < limits_layout::LENGTH {
-        return Written {
-            status: status::number(Status::NoRoom),
-            size: 0,
-        };
+        return not_written(Status::NoRoom);
     }
     match cursor_limits::write(limits_layout::read(record), out) {
         value::Written::Accepted(size) => Written { status: 0, size },
-        value::Written::Refused { status, place } => Written {
-            status: status::number(status),
-            size: 0,
-        },
+        value::Written::Refused { status, place } => not_written(status),
     }
 }

@@ -2,10 +2,9 @@
 -- its record as bytes (crate message_layout). s are the lent bytes of a message, xs those of its record. Assumes nothing.
 use Prim.Native.Nat.{ℕ}
 use mathlib.Core.List.{List}
-use mathlib.Core.Bool.{false, cond}
+use mathlib.Core.Bool.{cond}
 use lib.Dec.{ltb}
 use lib.ListN.{length}
-use Rattle.wire.specs.declared.status.Status.{Status}
 use Rattle.wire.specs.declared.status.Status.the-variants as status
 use Rattle.wire.specs.Status.{numberOf}
 use Rattle.scan.specs.Bytes.{copied}
@@ -23,7 +22,7 @@ use Rattle.host_answers.specs.declared.Answer.{Answer}
 use Rattle.host_answers.specs.declared.Number.{Number}
 use Rattle.host_answers.specs.declared.Written.{Written}
 use Rattle.host_answers.specs.declared.Yes.{Yes}
-use Rattle.host_answers.specs.Answers.{accepted, refused, short}
+use Rattle.host_answers.specs.Answers.{accepted, refused, short, wrote, notWritten, notAnswered}
 
 -- ---- Reading
 
@@ -45,11 +44,8 @@ readRecord s xs = recordOf (readMessage s) xs
 
 -- ---- Writing
 
-abbrev pub notWritten : Status → Written
-notWritten st = record { status = numberOf st; size = 0 }
-
 abbrev pub writtenOf : WriterAnswer → Written
-writtenOf (writer.Wrote n) = record { status = 0; size = n }
+writtenOf (writer.Wrote n) = wrote n
 writtenOf (writer.Refused st place) = notWritten st
 
 -- 10 where the record is short, else what the writer answers for the record
@@ -72,14 +68,11 @@ portAnswer s xs = numberAnswer (length xs) (portOf s (messageIn xs))
 abbrev pub optionsAnswer : List ℕ → List ℕ → Number
 optionsAnswer s xs = numberAnswer (length xs) (optionsOf s (messageIn xs))
 
-abbrev pub noAnswer : Yes
-noAnswer = record { status = numberOf status.NoRoom; yes = false }
-
 -- whether there is a Source ID, or 10 where the record or the place for the Source ID is short
 unfoldable pub sourceAnswer : List ℕ → List ℕ → List ℕ → Yes
 sourceAnswer s xs to =
-    cond (ltb (length xs) 64) noAnswer
-    (cond (ltb (length to) 16) noAnswer
+    cond (ltb (length xs) 64) (notAnswered status.NoRoom)
+    (cond (ltb (length to) 16) (notAnswered status.NoRoom)
     (record { status = 0; yes = sourceOf s (messageIn xs) .present }))
 
 -- the place for the Source ID afterwards: the Source ID is in its first bytes, if there is one

@@ -7,6 +7,8 @@ use host_answers::Number;
 use host_answers::Written;
 use host_answers::Yes;
 use host_answers::accept;
+use host_answers::not_answered;
+use host_answers::not_written;
 use host_answers::refuse;
 use message_reader::walk;
 use message_rules::accessors;
@@ -42,17 +44,11 @@ pub fn write(bytes: &[u8], record: &[u8], out: &mut [u8]) -> Written
     ensures after { λ _. ⌜ now (out .exit) ≡ messageOutput (now (bytes .entry)) (now («record» .entry)) (now (out .entry)) ⌝ }
 {
     if record.len() < message_layout::LENGTH {
-        return Written {
-            status: status::number(Status::NoRoom),
-            size: 0,
-        };
+        return not_written(Status::NoRoom);
     }
     match message_writer::write(bytes, message_layout::read(record), out) {
         message_writer::Written::Wrote(size) => Written { status: 0, size },
-        message_writer::Written::Refused { status, place } => Written {
-            status: status::number(status),
-            size: 0,
-        },
+        message_writer::Written::Refused { status, place } => not_written(status),
     }
 }
 
@@ -91,16 +87,10 @@ pub fn source_id(bytes: &[u8], record: &[u8], id: &mut [u8]) -> Yes
     ensures after { λ _. ⌜ now (id .exit) ≡ sourceLent (now (bytes .entry)) (now («record» .entry)) (now (id .entry)) ⌝ }
 {
     if record.len() < message_layout::LENGTH {
-        return Yes {
-            status: status::number(Status::NoRoom),
-            yes: false,
-        };
+        return not_answered(Status::NoRoom);
     }
     if id.len() < 16 {
-        return Yes {
-            status: status::number(Status::NoRoom),
-            yes: false,
-        };
+        return not_answered(Status::NoRoom);
     }
     let source = accessors::source_id(bytes, message_layout::read(record));
     if source.present {

@@ -1,70 +1,59 @@
 -- The record is short, or the reader accepts, or it refuses. Assumes nothing.
-use mathlib.Core.Path.{sym, _∙_}
-use denote.Ref.{now}
-use Rattle.limits_calls.proofs.Laws.LimitsCalls.{read-short, read-answered}
+use Prim.Native.Nat.{ℕ, _<_}
+use mathlib.Core.Path.{_≡_, refl, sym}
+use mathlib.Core.List.{List}
+use native.Mathlib.Omega.{arith}
+use borrow.Author.Tests.{lt-ltb, le-ltb}
 use borrow.Author.Needs.{needs}
+use denote.Ref.{now}
+use lib.ListN.{length}
+use Rattle.wire.proofs.Laws.Laid.{laid-short}
+use Rattle.cursor_limits.specs.declared.value.Answer.{Answer}
+use Rattle.cursor_limits.specs.declared.value.Answer.the-variants as reader
+use Rattle.cursor_limits.specs.Reading.{readValue}
+use Rattle.limits_layout.specs.LimitsLayout.{limitsBytes}
+use Rattle.limits_layout.proofs.Laws.LimitsLayout.{length-limits}
+use Rattle.limits_calls.specs.LimitsCalls.{readAnswer, recordOf, readRecord}
 use Rattle.limits_calls.proofs.read.Statement.{statement}
 use Rattle.limits_calls.proofs.read.Tie as tie
 
-refuse-requires : tie.Need-refuse-requires
-refuse-requires c κs = search needs
+short-kept : (a : Answer) (xs : List ℕ) → length xs < 8 → xs ≡ recordOf a xs
+short-kept (reader.Accepted v) xs h = sym (laid-short (limitsBytes v) xs (let n = length-limits v in omega arith))
+short-kept (reader.Refused st place) xs h = refl
 
 returns : tie.Need-returns
+unfolding readAnswer readRecord
 returns c =
     let i = c .before in
-    let a = i .before .before .before .args in
-    rw (c .refuse .ensures) (read-short (now (a .text)) (now (a .«record»)) (i .if1 .taken))
-
-read-requires : tie.Need-read-requires
-read-requires c κs = search needs
-
-enum-known-found : tie.Need-enum-known-found
-enum-known-found c = search needs
-
-write-requires : tie.Need-write-requires
-write-requires c κs = search needs
-
-accept-requires : tie.Need-accept-requires
-accept-requires c κs = search needs
-
-enum-known-status : tie.Need-enum-known-status
-enum-known-status c = search needs
-
-refuse-requires-2 : tie.Need-refuse-requires-2
-refuse-requires-2 c κs = search needs
-
-same-length : tie.Need-same-length
-same-length c = search needs
+    simp (c .refuse .ensures, lt-ltb _ 8 (i .if1 .taken)) (refl, short-kept (readValue (now (i .before .before .before .args .text))) _ (i .if1 .taken))
 
 returns-2 : tie.Need-returns-2
+unfolding readAnswer readRecord
 returns-2 c =
     let w = c .before .before .before in
     let m = w .before .before .before in
     let r = m .before .before in
-    let i = r .before in
-    let a = i .before .before .before .args in
-    rw (c .accept .ensures, w .write .ensures) (read-answered (now (a .text)) (now (a .«record»)) _ (i .if1 .left) (sym (r .read .ensures) ∙ m .found .given .1))
+    rw (c .accept .ensures, w .write .ensures, sym (r .read .ensures), m .found .given .1) (simp (le-ltb _ 8 (r .before .if1 .left)) (refl, refl))
 
 returns-3 : tie.Need-returns-3
+unfolding readAnswer readRecord
 returns-3 c =
     let m = c .before .before in
     let r = m .before .before in
-    let i = r .before in
-    let a = i .before .before .before .args in
-    rw (c .refuse2 .ensures) (read-answered (now (a .text)) (now (a .«record»)) _ (i .if1 .left) (sym (r .read .ensures) ∙ m .status .given .1))
+    rw (c .refuse2 .ensures, sym (r .read .ensures), m .status .given .1) (simp (le-ltb _ 8 (r .before .if1 .left)) (refl, refl))
 
 pub read-spec : {M : Type 1} → statement M
 read-spec =
     tie.close
     (tie.spec
-    refuse-requires
+    (λ c κs. search needs)
     returns
-    read-requires
-    enum-known-found
-    write-requires
-    accept-requires
-    enum-known-status
-    refuse-requires-2
-    same-length
+    (λ c κs. search needs)
+    (λ c. search needs)
+    (λ c κs. search needs)
+    (λ c κs. search needs)
+    (λ c. search needs)
+    (λ c κs. search needs)
+    (λ c. search needs)
     returns-2
     returns-3)

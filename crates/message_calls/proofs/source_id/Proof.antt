@@ -1,80 +1,56 @@
 -- The record or the place for the Source ID is short, or there is a Source ID, or there is none. Assumes nothing.
-use denote.Ref.{now}
-use Rattle.message_calls.proofs.Laws.MessageCalls.{source-short, source-no-room, source-answered}
+use mathlib.Core.Path.{_≡_, refl, sym, ap, _∙_}
+use borrow.Author.Tests.{lt-ltb, le-ltb}
 use borrow.Author.Needs.{needs}
-use Rattle.message_calls.proofs.source_id.Statement.{
-  statement,
-}
+use denote.Ref.{now}
+use Rattle.message_rules.specs.Accessors.{sourceOf}
+use Rattle.message_layout.specs.MessageLayout.{messageIn}
+use Rattle.message_calls.specs.MessageCalls.{sourceAnswer, sourceLent}
+use Rattle.message_calls.proofs.source_id.Statement.{statement}
 use Rattle.message_calls.proofs.source_id.Tie as tie
 
-number-requires : tie.Need-number-requires
-number-requires c κs = search needs
-
 returns : tie.Need-returns
-returns c =
-    let i = c .before in
-    let a = i .before .before .before .before .args in
-    rw (c .number .ensures) (source-short (now (a .bytes)) (now (a .«record»)) (now (a .id)) (i .if1 .taken))
-
-number-requires-2 : tie.Need-number-requires-2
-number-requires-2 c κs = search needs
+unfolding sourceAnswer sourceLent
+returns c = simp (c .not-answered .ensures, lt-ltb _ 64 (c .before .if1 .taken)) (refl, refl)
 
 returns-2 : tie.Need-returns-2
+unfolding sourceAnswer sourceLent
 returns-2 c =
     let j = c .before in
-    let i = j .before in
-    let a = i .before .before .before .before .args in
-    rw (c .number2 .ensures) (source-no-room (now (a .bytes)) (now (a .«record»)) (now (a .id)) (i .if1 .left) (j .if2 .taken))
+    simp (c .not-answered2 .ensures, le-ltb _ 64 (j .before .if1 .left), lt-ltb _ 16 (j .if2 .taken)) (refl, refl)
 
-read-requires : tie.Need-read-requires
-read-requires c κs = search needs
-
-source-id-requires : tie.Need-source-id-requires
-source-id-requires c κs = search needs
-
-slice-aggregate-copy : tie.Need-slice-aggregate-copy
-slice-aggregate-copy c = search needs
-
-copy-requires : tie.Need-copy-requires
-copy-requires c κs = search needs
-
-same-length : tie.Need-same-length
-same-length c = search needs
+-- the Source ID that was read is that of the record
+found : (c : tie.After-source-id) → let a = c .before .before .before .before .before .before .before .args in c .source-id .result ≡ sourceOf (now (a .bytes)) (messageIn (now (a .«record»)))
+found c = c .source-id .ensures ∙ ap (sourceOf _) (c .before .read .ensures)
 
 returns-3 : tie.Need-returns-3
+unfolding sourceAnswer sourceLent
 returns-3 c =
     let k = c .before .before in
     let p = k .before .before .before .before in
-    let s = p .before in
-    let r = s .before in
-    let j = r .before in
-    let i = j .before in
-    let a = i .before .before .before .before .args in
-    source-answered (now (a .bytes)) (now (a .«record»)) (now (a .id)) (i .if1 .left) _ _ _ (j .if2 .left) (r .read .ensures)
-    (s .source-id .ensures) (simp (p .if3 .taken) (k .copy .ensures))
+    let j = p .before .before .before in
+    rw (sym (found (p .before)))
+    (simp (le-ltb _ 64 (j .before .if1 .left), le-ltb _ 16 (j .if2 .left), p .if3 .taken) (refl, k .copy .ensures))
 
 returns-4 : tie.Need-returns-4
+unfolding sourceAnswer sourceLent
 returns-4 c =
-    let s = c .before in
-    let r = s .before in
-    let j = r .before in
-    let i = j .before in
-    let a = i .before .before .before .before .args in
-    source-answered (now (a .bytes)) (now (a .«record»)) (now (a .id)) (i .if1 .left) _ _ _ (j .if2 .left) (r .read .ensures)
-    (s .source-id .ensures) (simp (c .if3 .left))
+    let j = c .before .before .before in
+    rw (sym (found (c .before)))
+    (simp (le-ltb _ 64 (j .before .if1 .left), le-ltb _ 16 (j .if2 .left), c .if3 .left) (refl, refl))
 
 pub source-id-spec : {M : Type 1} → statement M
 source-id-spec =
     tie.close
     (tie.spec
-    number-requires
+    (λ c κs. search needs)
     returns
-    number-requires-2
+    (λ c κs. search needs)
     returns-2
-    read-requires
-    source-id-requires
-    slice-aggregate-copy
-    copy-requires
-    same-length
+    (λ c κs. search needs)
+    (λ c κs. search needs)
+    (λ c. search needs)
+    (λ c κs. search needs)
+    (λ c. search needs)
     returns-3
     returns-4)
