@@ -1,7 +1,10 @@
 // What the calls for hosts answer: the status (0 accepted, else the refusal number of 01), and what belongs to it.
 ghost use mathlib.Core.Path.{_≡_};
+ghost use lib.ListN.{length, replicate};
+ghost use Rattle.wire.specs.Laid.{laid};
 ghost use Rattle.host_answers.specs.Answers.{accepted, refused, notWritten, notAnswered};
 ghost use Rattle.host_answers.specs.Fresh.{freshAnswer};
+use scan::bytes;
 use wire::status;
 use wire::status::Status;
 
@@ -86,5 +89,17 @@ pub fn fresh_answer(lent: usize, needed: usize) -> u8
     if lent < needed {
         return status::number(Status::NoRoom);
     }
+    status::number(Status::Accepted)
+}
+
+// Writes a fresh record, whose bytes are all 0, and answers so.
+pub fn fresh(record: &mut [u8], needed: usize) -> u8
+    ensures answer { λ r. ⌜ r ≡ freshAnswer needed (length (now («record» .entry))) ⌝ }
+    ensures bytes { λ _. ⌜ now («record» .exit) ≡ laid (replicate needed 0) (now («record» .entry)) ⌝ }
+{
+    if record.len() < needed {
+        return status::number(Status::NoRoom);
+    }
+    bytes::fill(&mut record[0..needed], 0);
     status::number(Status::Accepted)
 }

@@ -12,7 +12,6 @@ use session_step::message_step;
 use session_step::step;
 use session_step::step::Answer;
 use session_step::step::Stepped;
-use session_table::record::Session;
 use wire::number::put_u8;
 use wire::status;
 use wire::status::Status;
@@ -22,8 +21,7 @@ pub fn fresh(record: &mut [u8]) -> u8
     ensures answer { λ r. ⌜ r ≡ freshAnswer 19 (length (now («record» .entry))) ⌝ }
     ensures bytes { λ _. ⌜ now («record» .exit) ≡ laid (sessionBytes freshSession) (now («record» .entry)) ⌝ }
 {
-    session_layout::write(record, Session::fresh());
-    host_answers::fresh_answer(record.len(), session_layout::LENGTH)
+    host_answers::fresh(record, session_layout::LENGTH)
 }
 
 // A lent slice is too short.

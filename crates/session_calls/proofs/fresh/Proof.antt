@@ -1,29 +1,13 @@
--- The fresh record is laid, and the length stays. Assumes nothing.
-use mathlib.Core.Path.{_∙_}
-use denote.Ref.{now}
-use Rattle.wire.proofs.Laws.Laid.{length-laid}
+-- The bytes of a fresh session are all 0. Assumes nothing.
 use borrow.Author.Needs.{needs}
+use Rattle.little_endian.specs.Little.{bytes}
+use Rattle.session_layout.specs.SessionLayout.{sessionBytes}
 use Rattle.session_calls.proofs.fresh.Statement.{statement}
 use Rattle.session_calls.proofs.fresh.Tie as tie
 
-fresh-requires : tie.Need-fresh-requires
-fresh-requires c κs = search needs
-
-write-requires : tie.Need-write-requires
-write-requires c κs = search needs
-
-fresh-answer-requires : tie.Need-fresh-answer-requires
-fresh-answer-requires c κs = search needs
-
-same-length : tie.Need-same-length
-same-length c = search needs
-
 returns : tie.Need-returns
-returns c =
-    let w = c .before .before .before in
-    let xs = now (w .before .before .before .before .args .«record») in
-    (c .fresh-answer .ensures ∙ rw (w .write .ensures, length-laid _ xs), w .write .ensures ∙ rw (w .before .fresh .ensures))
+unfolding sessionBytes bytes
+returns c = c .before .before .fresh .ensures
 
 pub fresh-spec : {M : Type 1} → statement M
-fresh-spec =
-    tie.close (tie.spec fresh-requires write-requires fresh-answer-requires same-length returns)
+fresh-spec = tie.close (tie.spec (λ c κs. search needs) (λ c. search needs) returns)
