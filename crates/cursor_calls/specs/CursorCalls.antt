@@ -6,7 +6,6 @@ use mathlib.Core.List.{List}
 use lib.Dec.{leb}
 use lib.ListN.{length}
 use Rattle.wire.specs.declared.status.Status.the-variants as status
-use Rattle.wire.specs.Status.{numberOf}
 use Rattle.cursor_pointer.specs.declared.PointerAnswer.{PointerAnswer}
 use Rattle.cursor_pointer.specs.declared.PointerAnswer.the-variants as position
 use Rattle.cursor_pointer.specs.Pointer.{positioned}
@@ -22,7 +21,7 @@ use Rattle.cursor_layout.specs.PointerLayout.{pointerLength, pointerBytes, poin
 use Rattle.cursor_layout.specs.PictureLayout.{pictureLength, pictureBytes, pictureOf}
 use Rattle.host_answers.specs.declared.Answer.{Answer}
 use Rattle.host_answers.specs.declared.Yes.{Yes}
-use Rattle.host_answers.specs.Answers.{accepted, refused, short}
+use Rattle.host_answers.specs.Answers.{accepted, refused, short, notAnswered}
 
 -- The call for positions.
 
@@ -81,13 +80,13 @@ cursorStore ps qs packet image marks =
 abbrev pub yesOrNo : CompleteAnswer → Yes
 yesOrNo complete.Yes = record { status = 0; yes = true }
 yesOrNo complete.No = record { status = 0; yes = false }
-yesOrNo (complete.Refused s place) = record { status = numberOf s; yes = false }
+yesOrNo (complete.Refused s place) = notAnswered s
 
 unfoldable pub cursorComplete : List ℕ → List ℕ → List ℕ → Yes
 cursorComplete qs image marks =
     cond (leb pictureLength (length qs))
     (yesOrNo (completeness (pictureOf qs) (length image) marks))
-    (record { status = numberOf status.NoRoom; yes = false })
+    (notAnswered status.NoRoom)
 
 -- A refusal changes no lent byte: what a refused call leaves is what was lent. The proofs stand in proofs/Laws/CursorCalls.antt.
 

@@ -10,13 +10,12 @@ ghost use Rattle.host_answers.specs.Fresh.{freshAnswer};
 ghost use Rattle.cursor_calls.specs.CursorCalls.{afterPosition, cursorPosition, recordsWhole, afterStore, cursorStore, yesOrNo, cursorComplete};
 use cursor_layout::picture_layout;
 use cursor_layout::pointer_layout;
-use cursor_picture::Picture;
 use cursor_picture::completeness::CompleteAnswer;
-use cursor_pointer::Pointer;
 use cursor_store::storing;
 use host_answers::Answer;
 use host_answers::Yes;
 use host_answers::accept;
+use host_answers::not_answered;
 use host_answers::refuse;
 use wire::status;
 use wire::status::Status;
@@ -26,8 +25,7 @@ pub fn pointer_fresh(pointer: &mut [u8]) -> u8
     ensures answer { λ r. ⌜ r ≡ freshAnswer pointerLength (length (now (pointer .entry))) ⌝ }
     ensures bytes { λ _. ⌜ now (pointer .exit) ≡ laid (pointerBytes freshPointer) (now (pointer .entry)) ⌝ }
 {
-    pointer_layout::write(pointer, Pointer::fresh());
-    host_answers::fresh_answer(pointer.len(), pointer_layout::LENGTH)
+    host_answers::fresh(pointer, pointer_layout::LENGTH)
 }
 
 // Writes that no picture is opened.
@@ -35,8 +33,7 @@ pub fn picture_fresh(picture: &mut [u8]) -> u8
     ensures answer { λ r. ⌜ r ≡ freshAnswer pictureLength (length (now (picture .entry))) ⌝ }
     ensures bytes { λ _. ⌜ now (picture .exit) ≡ laid (pictureBytes freshPicture) (now (picture .entry)) ⌝ }
 {
-    picture_layout::write(picture, Picture::fresh());
-    host_answers::fresh_answer(picture.len(), picture_layout::LENGTH)
+    host_answers::fresh(picture, picture_layout::LENGTH)
 }
 
 // The call for positions.
@@ -104,10 +101,7 @@ fn answered(answer: CompleteAnswer) -> Yes
             status: 0,
             yes: false,
         },
-        CompleteAnswer::Refused { status, place } => Yes {
-            status: status::number(status),
-            yes: false,
-        },
+        CompleteAnswer::Refused { status, place } => not_answered(status),
     }
 }
 
@@ -116,10 +110,7 @@ pub fn complete(picture: &[u8], image: &[u8], marks: &[u8]) -> Yes
     ensures { λ r. ⌜ r ≡ cursorComplete (now (picture .entry)) (now (image .entry)) (now (marks .entry)) ⌝ }
 {
     if picture.len() < picture_layout::LENGTH {
-        return answered(CompleteAnswer::Refused {
-            status: Status::NoRoom,
-            place: 0,
-        });
+        return not_answered(Status::NoRoom);
     }
     answered(cursor_picture::complete(picture_layout::read(picture), image, marks))
 }

@@ -82,17 +82,7 @@ pub fn not_answered(status: Status) -> Yes
     }
 }
 
-// The answer of a call that writes a fresh record: 0, or 10 where fewer bytes are lent than the record needs.
-pub fn fresh_answer(lent: usize, needed: usize) -> u8
-    ensures { λ r. ⌜ r ≡ freshAnswer needed lent ⌝ }
-{
-    if lent < needed {
-        return status::number(Status::NoRoom);
-    }
-    status::number(Status::Accepted)
-}
-
-// Writes a fresh record, whose bytes are all 0, and answers so.
+// Writes a fresh record, whose bytes are all 0, and answers 0; or 10 where fewer bytes are lent than the record needs, which then stay as they are.
 pub fn fresh(record: &mut [u8], needed: usize) -> u8
     ensures answer { λ r. ⌜ r ≡ freshAnswer needed (length (now («record» .entry))) ⌝ }
     ensures bytes { λ _. ⌜ now («record» .exit) ≡ laid (replicate needed 0) (now («record» .entry)) ⌝ }

@@ -12,7 +12,7 @@ returns-2 : tie.Need-returns-2
 returns-2 c = sym (ap yesOrNo (c .enum-told2 .given .1))
 
 returns-3 : tie.Need-returns-3
-returns-3 c = rw (c .number .ensures) (sym (ap yesOrNo (c .before .before .answer .given .1)))
+returns-3 c = rw (c .not-answered .ensures) (sym (ap yesOrNo (c .before .before .answer .given .1)))
 
 pub answered-spec : {M : Type 1} → statement M
 answered-spec =

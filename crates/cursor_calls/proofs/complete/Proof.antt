@@ -1,9 +1,10 @@
 -- The record is too short, or the question is asked. Assumes nothing.
-use mathlib.Core.Path.{sym, _∙_}
+use mathlib.Core.Path.{_∙_}
 use native.Mathlib.Omega.{arith}
 use borrow.Author.Tests.{le-leb, lt-leb}
 use lib.ListN.{length}
 use denote.Ref.{now}
+use Rattle.cursor_layout.specs.PictureLayout.{pictureLength}
 use Rattle.cursor_calls.specs.CursorCalls.{cursorComplete}
 use borrow.Author.Needs.{needs}
 use Rattle.cursor_calls.proofs.complete.Statement.{statement}
@@ -13,7 +14,7 @@ returns : tie.Need-returns
 unfolding cursorComplete
 returns c =
     let a = c .before .before .before .before .before .args in
-    c .answered .ensures ∙ simp (lt-leb 15 (length (now (a .picture))) (c .before .if1 .taken))
+    c .not-answered .ensures ∙ simp (lt-leb pictureLength (length (now (a .picture))) (c .before .if1 .taken))
 
 returns-2 : tie.Need-returns-2
 unfolding cursorComplete
@@ -21,7 +22,7 @@ returns-2 c =
     let k = c .before in
     let r = k .before in
     let a = r .before .before .before .before .before .args in
-    c .answered2 .ensures ∙ rw (k .complete .ensures, r .read .ensures) (simp (le-leb 15 (length (now (a .picture))) (omega arith)))
+    c .answered .ensures ∙ rw (k .complete .ensures, r .read .ensures) (simp (le-leb pictureLength (length (now (a .picture))) (omega arith)))
 
 pub complete-spec : {M : Type 1} → statement M
 complete-spec =

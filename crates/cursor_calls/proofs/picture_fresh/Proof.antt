@@ -1,17 +1,15 @@
--- The fresh record is laid, and the length stays. Assumes nothing.
-use mathlib.Core.Path.{_∙_}
-use denote.Ref.{now}
-use Rattle.wire.proofs.Laws.Laid.{length-laid}
+-- The bytes of a picture that is not opened are all 0. Assumes nothing.
 use borrow.Author.Needs.{needs}
+use Rattle.little_endian.specs.Little.{bytes}
+use Rattle.cursor_fragment.specs.Start.{noStart}
+use Rattle.cursor_picture.specs.Picture.{freshPicture}
+use Rattle.cursor_layout.specs.PictureLayout.{startBytes, pictureBytes}
 use Rattle.cursor_calls.proofs.picture_fresh.Statement.{statement}
 use Rattle.cursor_calls.proofs.picture_fresh.Tie as tie
 
 returns : tie.Need-returns
-returns c =
-    let w = c .before .before .before in
-    let xs = now (w .before .before .before .before .args .picture) in
-    (c .fresh-answer .ensures ∙ rw (w .write .ensures, length-laid _ xs), w .write .ensures ∙ rw (w .before .fresh .ensures))
+unfolding pictureBytes startBytes freshPicture noStart bytes
+returns c = c .before .before .fresh .ensures
 
 pub picture-fresh-spec : {M : Type 1} → statement M
-picture-fresh-spec =
-    tie.close (tie.spec (λ c κs. search needs) (λ c κs. search needs) (λ c κs. search needs) (λ c. search needs) returns)
+picture-fresh-spec = tie.close (tie.spec (λ c κs. search needs) (λ c. search needs) returns)

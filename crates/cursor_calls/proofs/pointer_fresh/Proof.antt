@@ -1,17 +1,15 @@
--- The fresh record is laid, and the length stays. Assumes nothing.
-use mathlib.Core.Path.{_∙_}
-use denote.Ref.{now}
-use Rattle.wire.proofs.Laws.Laid.{length-laid}
+-- The bytes of a pointer whose position is not known are all 0. Assumes nothing.
 use borrow.Author.Needs.{needs}
+use Rattle.wire.specs.Signed.{unsigned}
+use Rattle.little_endian.specs.Little.{bytes}
+use Rattle.cursor_pointer.specs.Pointer.{freshPointer}
+use Rattle.cursor_layout.specs.PointerLayout.{pointerBytes}
 use Rattle.cursor_calls.proofs.pointer_fresh.Statement.{statement}
 use Rattle.cursor_calls.proofs.pointer_fresh.Tie as tie
 
 returns : tie.Need-returns
-returns c =
-    let w = c .before .before .before in
-    let xs = now (w .before .before .before .before .args .pointer) in
-    (c .fresh-answer .ensures ∙ rw (w .write .ensures, length-laid _ xs), w .write .ensures ∙ rw (w .before .fresh .ensures))
+unfolding pointerBytes freshPointer unsigned bytes
+returns c = c .before .before .fresh .ensures
 
 pub pointer-fresh-spec : {M : Type 1} → statement M
-pointer-fresh-spec =
-    tie.close (tie.spec (λ c κs. search needs) (λ c κs. search needs) (λ c κs. search needs) (λ c. search needs) returns)
+pointer-fresh-spec = tie.close (tie.spec (λ c κs. search needs) (λ c. search needs) returns)
