@@ -1,6 +1,6 @@
 -- Laws of `someBelow`: what it says of each number, and a step of a loop that computes it. Assumes nothing.
 use Prim.Native.Nat.{ℕ, zero, suc, _+_, _-_, _≤_, _<_}
-use mathlib.Core.Path.{_≡_, refl, subst}
+use mathlib.Core.Path.{_≡_, refl, subst, _∙_}
 use mathlib.Core.Logic.{_⊎_, inl, inr, ⊎-elim}
 use mathlib.Core.Bool.{Bool, true, false, not, _||_}
 use lib.Dec.{eqb}
@@ -33,15 +33,27 @@ unfolding someBelow
 below-none zero p h = refl
 below-none (suc n) p h = simp (h n (omega arith)) (below-none n p (λ k l. h k (omega arith)))
 
--- a step of a loop that keeps the greatest, and of one that keeps the least
+-- a loop over the numbers below `size` has passed those below k, and b says whether p holds of one of them
+abbrev pub Passed : ℕ → (ℕ → Bool) → ℕ → Bool → Type 0
+Passed size p k b = (k ≤ size) × (b ≡ someBelow k p)
+
+pub passed-none : (size : ℕ) (p : ℕ → Bool) → Passed size p 0 false
+unfolding someBelow
+passed-none size p = (omega arith, refl)
+
+pub passed-all : (size : ℕ) (p : ℕ → Bool) (k : ℕ) (b : Bool) → Passed size p k b → size ≤ k → b ≡ someBelow size p
+passed-all size p k b h l = let e : k ≡ size = omega (arith, h .0) in h .1 ∙ rw e
+
+-- a turn of a loop that keeps the greatest, and of one that keeps the least
 pub greater-step
-    : (k : ℕ) (p : ℕ → Bool) (high m r : ℕ) → not (eqb high 0) ≡ someBelow k p → r ≡ greater high m → not (eqb m 0) ≡ p k
-    → not (eqb r 0) ≡ someBelow (k + 1) p
-greater-step k p high m r e f g = rw (f, greater-set, e, g, some-more)
+    : (size : ℕ) (p : ℕ → Bool) (k high m r : ℕ) → Passed size p k (not (eqb high 0)) → k < size → r ≡ greater high m → not (eqb m 0) ≡ p k
+    → Passed size p (k + 1) (not (eqb r 0))
+greater-step size p k high m r h l f g = (omega arith, rw (f, greater-set, h .1, g, some-more))
 
 pub lesser-step
-    : (k : ℕ) (p : ℕ → Bool) (low m r : ℕ) → eqb low 0 ≡ someBelow k p → r ≡ lesser low m → eqb m 0 ≡ p k → eqb r 0 ≡ someBelow (k + 1) p
-lesser-step k p low m r e f g = rw (f, lesser-zero, e, g, some-more)
+    : (size : ℕ) (p : ℕ → Bool) (k low m r : ℕ) → Passed size p k (eqb low 0) → k < size → r ≡ lesser low m → eqb m 0 ≡ p k
+    → Passed size p (k + 1) (eqb r 0)
+lesser-step size p k low m r h l f g = (omega arith, rw (f, lesser-zero, h .1, g, some-more))
 
 -- a block more
 pub block-more

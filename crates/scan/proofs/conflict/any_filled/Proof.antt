@@ -1,55 +1,32 @@
 -- The greatest mark passed is not 0 exactly if one of them is not. Assumes nothing.
-use Prim.Native.Nat.{_+_, _-_, _≤_}
-use mathlib.Core.Path.{_≡_, refl, _∙_}
+use Prim.Native.Nat.{_+_, _-_}
+use mathlib.Core.Path.{refl}
 use mathlib.Core.Bool.{not}
 use native.Mathlib.Omega.{arith}
 use lib.ListN.{getD}
 use lib.Dec.{eqb}
 use borrow.Author.Needs.{needs}
 use denote.Ref.{now}
-use Rattle.scan.specs.Below.{someBelow}
 use Rattle.scan.specs.Empty.{filledAt}
-use Rattle.scan.proofs.Laws.Below.{greater-step}
+use Rattle.scan.proofs.Laws.Below.{Passed, passed-none, passed-all, greater-step}
 use Rattle.scan.proofs.conflict.any_filled.Statement.{statement}
 use Rattle.scan.proofs.conflict.any_filled.Tie as tie
 
 abbrev Inv-loop : tie.InvT-loop
-Inv-loop marks at size high₀ k₀ high k = (k ≤ size) × (not (eqb high 0) ≡ someBelow k (λ j. filledAt marks (at + j)))
+Inv-loop marks at size high₀ k₀ high k = Passed size (λ j. filledAt marks (at + j)) k (not (eqb high 0))
 
 abbrev μ-loop : tie.MeasureT-loop
 μ-loop marks at size high₀ k₀ high k = size - k
 
-loop-holds : tie.Need-loop-holds Inv-loop μ-loop
-unfolding someBelow
-loop-holds c = (omega arith, refl)
-
-add-most : tie.Need-add-most Inv-loop μ-loop
-add-most c = omega arith
-
-shared-slice-read-most : tie.Need-shared-slice-read-most Inv-loop μ-loop
-shared-slice-read-most c = omega arith
-
-most-requires : tie.Need-most-requires Inv-loop μ-loop
-most-requires c κs = search needs
-
-add-k : tie.Need-add-k Inv-loop μ-loop
-add-k c = omega arith
-
-loop-less : tie.Need-loop-less Inv-loop μ-loop
-loop-less c = omega arith
-
-loop-again : tie.Need-loop-again Inv-loop μ-loop
-loop-again c =
+again : tie.Need-loop-again Inv-loop μ-loop
+again c =
     let h = c .before .before in
     let l = h .before .loop in
     let a = h .before .before .before .args in
-    (omega arith, greater-step (l .k) (λ j. filledAt (now (a .marks)) (a .at + j)) (l .high) (getD (now (a .marks)) (a .at + l .k) 0) (c .most .result) (l .inv .1) (c .most .ensures) refl)
+    greater-step _ _ (l .k) (l .high) (getD (now (a .marks)) (a .at + l .k) 0) (c .most .result) (l .inv) (h .loop-test .taken) (c .most .ensures) refl
 
 returns : tie.Need-returns Inv-loop μ-loop
-returns c =
-    let l = c .before .loop in
-    let e : l .k ≡ c .before .before .before .args .size = omega arith in
-    l .inv .1 ∙ rw e
+returns c = let l = c .before .loop in passed-all _ _ (l .k) _ (l .inv) (c .loop-test .left)
 
 pub any-filled-spec : {M : Type 1} → statement M
 any-filled-spec =
@@ -57,11 +34,11 @@ any-filled-spec =
     (tie.spec
     Inv-loop
     μ-loop
-    loop-holds
-    add-most
-    shared-slice-read-most
-    most-requires
-    add-k
-    loop-less
-    loop-again
+    (λ c. passed-none _ _)
+    (λ c. omega arith)
+    (λ c. omega arith)
+    (λ c κs. search needs)
+    (λ c. omega arith)
+    (λ c. omega arith)
+    again
     returns)
