@@ -4,7 +4,7 @@ use mathlib.Core.Path.{_≡_, refl}
 use mathlib.Core.Bool.{true}
 use mathlib.Core.List.{List, [], _∷_, _++_}
 use lib.IntN.{pos, negsuc}
-use Rattle.wire.specs.Number.{number}
+use Rattle.wire.specs.Number.{numberIn}
 use Rattle.wire.specs.Signed.{signed}
 use Rattle.wire.specs.declared.status.Status.the-variants as status
 use Rattle.wire.specs.Checks.{firstOf}
@@ -24,7 +24,7 @@ pub p10
     : (fragmentStatus (eight 13 (0 ∷ 0 ∷ 0 ∷ 8 ∷ [])) ≡ status.Accepted)
     × (fragmentStatus (eight 15 (0 ∷ 0 ∷ 0 ∷ 7 ∷ 65 ∷ 66 ∷ [])) ≡ status.OutsideImage)
     × (fragmentStatus (eight 13 (0xff ∷ 0xff ∷ 0xff ∷ 0xff ∷ [])) ≡ status.OutsideImage)
-unfolding fragmentFrame fragmentChecks firstOf frameChecks rtpHolds unusedZero number signed takesType headerLength imageData offsetBits outside
+unfolding fragmentFrame fragmentChecks firstOf frameChecks rtpHolds unusedZero numberIn signed takesType headerLength imageData offsetBits outside
 p10 = (refl, refl, refl)
 
 -- a start: total 4, id 9, position −2, 10, image type 3, hot spot 1, 2, two bytes of data
@@ -42,15 +42,15 @@ pub start-read
       starts = true;
       start = record { «image_type» = 3; «hot_x» = 1; «hot_y» = 2 };
     })
-unfolding readFragment fragmentAs startIn startOf placeOf fragmentFrame fragmentChecks firstOf frameChecks rtpHolds unusedZero number signed takesType headerLength imageData offsetBits outside
+unfolding readFragment fragmentAs startIn startOf placeOf fragmentFrame fragmentChecks firstOf frameChecks rtpHolds unusedZero numberIn signed takesType headerLength imageData offsetBits outside
 start-read = refl
 
 pub start-moves-to : startPosition start ≡ record { sequence = 5; x = negsuc 1; y = pos 10 }
-unfolding positionAt number signed
+unfolding positionAt numberIn signed
 start-moves-to = refl
 
 pub start-data : dataOf start ≡ 65 ∷ 66 ∷ []
-unfolding imageData headerLength number
+unfolding imageData headerLength numberIn
 start-data = refl
 
 -- the order: too short before a wrong type, a wrong RTP field before a wrong type, a wrong type before a wrong size; the call takes its own
@@ -61,5 +61,5 @@ pub in-order
     × (fragmentStatus (rtp 5 ++ (1 ∷ 0 ∷ 0 ∷ [])) ≡ status.UnknownKind)
     × (fragmentStatus (rtp 5 ++ (3 ∷ 0 ∷ 12 ∷ [])) ≡ status.WrongSize)
     × (fragmentStatus (rtp 5 ++ (3 ∷ 0 ∷ 13 ∷ [])) ≡ status.Truncated)
-unfolding fragmentFrame fragmentChecks firstOf frameChecks rtpHolds unusedZero number signed takesType headerLength imageData offsetBits outside
+unfolding fragmentFrame fragmentChecks firstOf frameChecks rtpHolds unusedZero numberIn signed takesType headerLength imageData offsetBits outside
 in-order = (refl, refl, refl, refl, refl)

@@ -17,12 +17,12 @@ ghost use Rattle.wire.specs.Laid.{laid};
 ghost use Rattle.cursor_layout.specs.PictureLayout.{pictureLength, startBytes, pictureBytes, pictureOf};
 use cursor_fragment::start::Start;
 use cursor_picture::Picture;
-use little_endian::put_u8;
-use little_endian::put_u16;
-use little_endian::put_u32;
-use little_endian::u8_at;
-use little_endian::u16_at;
-use little_endian::u32_at;
+use wire::little_endian::put_u8;
+use wire::little_endian::put_u16;
+use wire::little_endian::put_u32;
+use wire::little_endian::u8_at;
+use wire::little_endian::u16_at;
+use wire::little_endian::u32_at;
 
 pub const LENGTH: usize = 15;
 

@@ -9,10 +9,10 @@ ghost use mathlib.Core.Path.{_≡_};
 ghost use Rattle.wire.specs.Laid.{laid};
 ghost use Rattle.cursor_layout.specs.PointerLayout.{pointerBytes, pointerOf};
 use cursor_pointer::Pointer;
-use little_endian::put_u8;
-use little_endian::put_u16;
-use little_endian::u8_at;
-use little_endian::u16_at;
+use wire::little_endian::put_u8;
+use wire::little_endian::put_u16;
+use wire::little_endian::u8_at;
+use wire::little_endian::u16_at;
 use wire::signed::signed16;
 use wire::signed::unsigned16;
 

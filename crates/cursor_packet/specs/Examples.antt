@@ -3,7 +3,7 @@ use Prim.Native.Nat.{ℕ}
 use mathlib.Core.Path.{_≡_, refl}
 use mathlib.Core.List.{List, [], _∷_, _++_}
 use lib.IntN.{pos, negsuc}
-use Rattle.wire.specs.Number.{number}
+use Rattle.wire.specs.Number.{numberIn}
 use Rattle.wire.specs.Signed.{signed}
 use Rattle.wire.specs.declared.status.Status.the-variants as status
 use Rattle.cursor_packet.specs.declared.position.PositionAnswer.the-variants as position
@@ -19,12 +19,12 @@ rtp sequence = 0x80 ∷ 0 ∷ 0 ∷ sequence ∷ 0 ∷ 0 ∷ 0 ∷ 0 ∷ 0 ∷ 0
 -- P9: position −2 (`negsuc 1`), 10
 pub p9
     : readPosition (rtp 5 ++ (1 ∷ 0 ∷ 7 ∷ 0xff ∷ 0xfe ∷ 0 ∷ 0x0a ∷ [])) ≡ position.Accepted (record { sequence = 5; x = negsuc 1; y = pos 10 })
-unfolding readPosition positionChecks positionAt firstOf frameChecks rtpHolds unusedZero number signed
+unfolding readPosition positionChecks positionAt firstOf frameChecks rtpHolds unusedZero numberIn signed
 p9 = refl
 
 -- the order: a wrong type before a wrong size; the call takes its own type
 pub in-order
     : (readPosition (rtp 5 ++ (2 ∷ 0 ∷ 7 ∷ [])) ≡ position.Refused status.UnknownKind 0)
     × (readPosition (rtp 5 ++ (1 ∷ 0 ∷ 8 ∷ [])) ≡ position.Refused status.WrongSize 0)
-unfolding readPosition positionChecks positionAt firstOf frameChecks rtpHolds unusedZero number signed
+unfolding readPosition positionChecks positionAt firstOf frameChecks rtpHolds unusedZero numberIn signed
 in-order = (refl, refl)

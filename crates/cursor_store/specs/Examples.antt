@@ -5,7 +5,7 @@ use mathlib.Core.Path.{_≡_, refl}
 use mathlib.Core.Bool.{true, false}
 use mathlib.Core.List.{List, [], _∷_, _++_}
 use lib.IntN.{pos, negsuc}
-use Rattle.wire.specs.Number.{number}
+use Rattle.wire.specs.Number.{numberIn}
 use Rattle.wire.specs.Sequence.{distance, isNewer}
 use Rattle.wire.specs.Signed.{signed}
 use Rattle.wire.specs.Splice.{splice}
@@ -40,12 +40,12 @@ abbrev pub position9 : List ℕ
 position9 = rtp 0 5 ++ (1 ∷ 0 ∷ 7 ∷ 0xff ∷ 0xfe ∷ 0 ∷ 0x0a ∷ [])
 
 pub p9 : positioned freshPointer position9 ≡ pointer.Accepted (record { known = true; sequence = 5; x = negsuc 1; y = pos 10 })
-unfolding positioned positionStatus freshPointer movedTo isNewer positionChecks positionAt firstOf frameChecks rtpHolds unusedZero number signed
+unfolding positioned positionStatus freshPointer movedTo isNewer positionChecks positionAt firstOf frameChecks rtpHolds unusedZero numberIn signed
 p9 = refl
 
 -- the same packet again is not newer
 pub p9-again : positioned (record { known = true; sequence = 5; x = negsuc 1; y = pos 10 }) position9 ≡ pointer.Refused status.NotNewer 0
-unfolding positioned positionStatus movedTo isNewer distance positionChecks positionAt firstOf frameChecks rtpHolds unusedZero number signed
+unfolding positioned positionStatus movedTo isNewer distance positionChecks positionAt firstOf frameChecks rtpHolds unusedZero numberIn signed
 p9-again = refl
 
 -- a continuation of total 8, id 1, with a PacketMsgSize below 256, an offset and data
@@ -60,7 +60,7 @@ pub p10
     : (storeStatus freshPicture (eight 13 (0 ∷ 0 ∷ 0 ∷ 8 ∷ [])) nine nine ≡ status.Accepted)
     × (storeStatus freshPicture (eight 15 (0 ∷ 0 ∷ 0 ∷ 7 ∷ 65 ∷ 66 ∷ [])) nine nine ≡ status.OutsideImage)
     × (storeStatus freshPicture (eight 13 (0xff ∷ 0xff ∷ 0xff ∷ 0xff ∷ [])) nine nine ≡ status.OutsideImage)
-unfolding storeStatus storeChecks freshPicture held hasRoom judging openedRules otherRules ofOpened isNewer fragmentChecks fragmentFrame firstOf frameChecks rtpHolds unusedZero number signed takesType headerLength imageData offsetBits placeOf outside fragmentAs
+unfolding storeStatus storeChecks freshPicture held hasRoom judging openedRules otherRules ofOpened isNewer fragmentChecks fragmentFrame firstOf frameChecks rtpHolds unusedZero numberIn signed takesType headerLength imageData offsetBits placeOf outside fragmentAs
 p10 = (refl, refl, refl)
 
 -- The premises of demand 3 can be met: a picture of four bytes under id 9, its last place filled, and two lists of the same three
@@ -110,5 +110,5 @@ pub ends-with
     × (run opened backwards .marks ≡ 1 ∷ 1 ∷ 1 ∷ 1 ∷ 7 ∷ [])
     × (completeness (run opened forwards .picture) 5 (run opened forwards .marks) ≡ complete.Yes)
     × (completeness (opened .picture) 5 (opened .marks) ≡ complete.No)
-unfolding run next stored assembled assembledAs storeStatus storeChecks held hasRoom judging openedRules otherRules ofOpened sameStart startDiffers bytesDiffer conflictIn someBelow lesser isNewer distance movedTo openedFor clearedFor imageAfter marksAfter withStart pictureAfter pointerAfter splice fragmentChecks fragmentFrame firstOf frameChecks rtpHolds unusedZero number signed takesType headerLength imageData startOf noStart startIn offsetBits placeOf outside fragmentAs firstEmptyOf firstEmpty completeness
+unfolding run next stored assembled assembledAs storeStatus storeChecks held hasRoom judging openedRules otherRules ofOpened sameStart startDiffers bytesDiffer conflictIn someBelow lesser isNewer distance movedTo openedFor clearedFor imageAfter marksAfter withStart pictureAfter pointerAfter splice fragmentChecks fragmentFrame firstOf frameChecks rtpHolds unusedZero numberIn signed takesType headerLength imageData startOf noStart startIn offsetBits placeOf outside fragmentAs firstEmptyOf firstEmpty completeness
 ends-with = (refl, refl, refl, refl, refl)

@@ -13,10 +13,10 @@ ghost use Rattle.limits_layout.specs.LimitsLayout.{xorByte, xorOf, numbe
 use cursor_limits::value::Limits;
 use cursor_limits::value::Value;
 use cursor_limits::value::Xor;
-use little_endian::put_u8;
-use little_endian::put_u16;
-use little_endian::u8_at;
-use little_endian::u16_at;
+use wire::little_endian::put_u8;
+use wire::little_endian::put_u16;
+use wire::little_endian::u8_at;
+use wire::little_endian::u16_at;
 
 pub const LENGTH: usize = 8;
 

@@ -6,7 +6,7 @@ use mathlib.Core.Bool.{Bool, true, false, _&&_}
 use lib.ListN.{replicate}
 use lib.Dec.{eqb}
 use Rattle.wire.specs.Checks.{firstOf}
-use Rattle.wire.specs.Number.{number}
+use Rattle.wire.specs.Number.{numberIn}
 use Rattle.wire.specs.Status.{numberOf}
 use Rattle.message_reader.specs.declared.Answer.{Answer}
 use Rattle.message_reader.specs.declared.Answer.the-variants as answer
@@ -56,6 +56,6 @@ all [] = true
 all (x ∷ xs) = holds x && all xs
 
 pub examples-hold : all examples ≡ true
-unfolding tail short givesPort givesRefusal holds examples all number rolesOf roleOf lengthsOf lengthIn lengthOk knownCommand fieldOf withField emptyOf
+unfolding tail short givesPort givesRefusal holds examples all numberIn rolesOf roleOf lengthsOf lengthIn lengthOk knownCommand fieldOf withField emptyOf
     allBelow hasNeeded isComplete firstOf headerStatus tlvAt lastOf tlvsFrom readMessage portOf
 examples-hold = refl

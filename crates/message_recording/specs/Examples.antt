@@ -5,7 +5,7 @@ use mathlib.Core.List.{List, [], _∷_, _++_}
 use lib.ListN.{replicate}
 use Rattle.wire.specs.Below.{allBelow}
 use Rattle.wire.specs.Checks.{firstOf}
-use Rattle.wire.specs.Number.{number}
+use Rattle.wire.specs.Number.{numberIn}
 use Rattle.wire.specs.declared.status.Status.the-variants as status
 use Rattle.message_rules.specs.Rules.{rolesOf, roleOf, lengthsOf, lengthIn, lengthOk, knownCommand}
 use Rattle.message_rules.specs.Record.{fieldOf, withField, emptyOf}
@@ -27,7 +27,7 @@ pub two-messages
     : (listing (sourceReady ++ stopProjection) ≡ (0, line.Message 1 33) ∷ (33, line.Message 2 28) ∷ (61, line.End) ∷ [])
     × (listing ((sourceReady ++ stopProjection) ++ (0 ∷ []))
     ≡ (0, line.Message 1 33) ∷ (33, line.Message 2 28) ∷ (61, line.Refused status.Truncated) ∷ [])
-unfolding sourceReady stopProjection number rolesOf roleOf lengthsOf lengthIn lengthOk knownCommand fieldOf withField emptyOf allBelow hasNeeded isComplete firstOf readSize headerStatus tlvAt lastOf tlvsFrom readMessage neededOf lineOf linesFrom linesAt listing
+unfolding sourceReady stopProjection numberIn rolesOf roleOf lengthsOf lengthIn lengthOk knownCommand fieldOf withField emptyOf allBelow hasNeeded isComplete firstOf readSize headerStatus tlvAt lastOf tlvsFrom readMessage neededOf lineOf linesFrom linesAt listing
 two-messages = (refl, refl)
 
 -- an empty recording: `end 0`
@@ -37,10 +37,10 @@ empty = refl
 
 -- a Size below 4: `0 refused 2`
 pub size-below-header : listing (0 ∷ 3 ∷ 1 ∷ 1 ∷ []) ≡ (0, line.Refused status.WrongSize) ∷ []
-unfolding number firstOf readSize headerStatus readMessage neededOf lineOf linesFrom linesAt listing
+unfolding numberIn firstOf readSize headerStatus readMessage neededOf lineOf linesFrom linesAt listing
 size-below-header = refl
 
 -- fewer bytes than Size: `0 refused 1`
 pub size-past-the-end : listing (0 ∷ 5 ∷ 1 ∷ 1 ∷ []) ≡ (0, line.Refused status.Truncated) ∷ []
-unfolding number firstOf readSize headerStatus readMessage neededOf lineOf linesFrom linesAt listing
+unfolding numberIn firstOf readSize headerStatus readMessage neededOf lineOf linesFrom linesAt listing
 size-past-the-end = refl

@@ -8,7 +8,7 @@ use lib.Dec.{eqb}
 use lib.IntN.{ℤ, pos, negsuc}
 use lib.ListN.{replicate}
 use Rattle.wire.specs.Below.{allBelow}
-use Rattle.wire.specs.Number.{number}
+use Rattle.wire.specs.Number.{numberIn}
 use Rattle.wire.specs.Sequence.{distance, isNewer}
 use Rattle.wire.specs.Signed.{signed}
 use Rattle.wire.specs.Status.{numberOf}
@@ -155,7 +155,7 @@ allHold (x ∷ xs) = holds x && allHold xs
 pub examples-hold : allHold examples ≡ true
 unfolding
     examples afterSize withoutPort rtp ofTotal8 isPort isRefused same sameInteger isPosition isNumber isClosed closesIt holds allHold
-    allBelow number distance isNewer signed
+    allBelow numberIn distance isNewer signed
     rolesOf roleOf lengthsOf lengthIn lengthOk knownCommand fieldOf withField emptyOf headerStatus hasNeeded isComplete tlvAt lastOf tlvsFrom readMessage portOf
     firstOf unusedZero rtpHolds frameChecks positionChecks positionAt readPosition
     takesType headerLength imageData offsetBits outside fragmentFrame fragmentChecks

@@ -6,18 +6,7 @@ use wire::signed;
 use wire::status;
 use wire::status::Status;
 
-// A space and z, by its two's complement.
-fn print_i32(z: i32) {
-    let bits = signed::unsigned32(z) as u64;
-    if z < 0 {
-        print::text(b" -");
-        print::decimal(4294967296 - bits);
-    } else {
-        print::number(bits);
-    }
-}
-
-// The numbers at one place: the place, then one, two and four bytes unsigned, two and four bytes signed.
+// The numbers at one place: the place, then one, two and four bytes unsigned, two bytes signed.
 fn read_line(at: usize) {
     let bytes = b"\x80\x00\xff\xfe\x7f\x01\x1c";
     print::field(b"read", at as u64);
@@ -25,7 +14,6 @@ fn read_line(at: usize) {
     print::number(number::u16_at(bytes, at) as u64);
     print::number(number::u32_at(bytes, at) as u64);
     print::signed(signed::signed16(number::u16_at(bytes, at)));
-    print_i32(signed::signed32(number::u32_at(bytes, at)));
     print::text(b"\n");
 }
 
@@ -50,7 +38,7 @@ fn write_lines(at: usize) {
     let fits = number::put_u16(&mut two, at, 0x1c44);
     written_line(2, at, fits, &two);
     let mut four = [9u8; 4];
-    let fits = number::put_u32(&mut four, at, signed::unsigned32(-10));
+    let fits = number::put_u32(&mut four, at, 0xfffffff6);
     written_line(4, at, fits, &four);
 }
 

@@ -2,7 +2,9 @@ pub mod Below
 pub mod Bool
 pub mod Checks
 pub mod Count
+pub mod Digits
 pub mod Laid
+pub mod Layout
 pub mod Number
 pub mod Sequence
 pub mod Signed

@@ -4,7 +4,8 @@ use mathlib.Core.Bool.{true, false, not, _&&_}
 use mathlib.Core.List.{[], _∷_}
 use lib.IntN.{pos, negsuc}
 use Rattle.wire.specs.Splice.{splice}
-use Rattle.wire.specs.Number.{number, bytes, written}
+use Rattle.wire.specs.LittleEndian as little
+use Rattle.wire.specs.Number.{numberIn, bytesIn, writtenIn, number, written}
 use Rattle.wire.specs.Signed.{signed, unsigned}
 use Rattle.wire.specs.Sequence.{distance, isNewer}
 
@@ -25,20 +26,45 @@ no-last = refl
 
 -- 1C 44 is 7,236, the most significant byte first; past the end a byte counts as 0
 pub port : number 2 (0x1c ∷ 0x44 ∷ []) 0 ≡ 7236
-unfolding number
+unfolding numberIn
 port = refl
 
 pub past-the-end : number 2 (0x1c ∷ 0x44 ∷ []) 1 ≡ 17408
-unfolding number
+unfolding numberIn
 past-the-end = refl
 
 pub port-written : written 2 7236 1 (9 ∷ 9 ∷ 9 ∷ 9 ∷ []) ≡ 9 ∷ 0x1c ∷ 0x44 ∷ 9 ∷ []
-unfolding written bytes splice
+unfolding writtenIn bytesIn splice
 port-written = refl
 
 pub no-place : written 2 7236 3 (9 ∷ 9 ∷ 9 ∷ 9 ∷ []) ≡ 9 ∷ 9 ∷ 9 ∷ 9 ∷ []
-unfolding written bytes splice
+unfolding writtenIn bytesIn splice
 no-place = refl
+
+-- the same number the least significant byte first
+pub little-bytes : little.bytes 2 7236 ≡ 0x44 ∷ 0x1c ∷ []
+unfolding bytesIn
+little-bytes = refl
+
+pub little-total : little.bytes 4 0x00040000 ≡ 0x00 ∷ 0x00 ∷ 0x04 ∷ 0x00 ∷ []
+unfolding bytesIn
+little-total = refl
+
+pub little-port : little.number 2 (9 ∷ 0x44 ∷ 0x1c ∷ []) 1 ≡ 7236
+unfolding numberIn
+little-port = refl
+
+pub little-past-the-end : little.number 2 (0x44 ∷ 0x1c ∷ []) 1 ≡ 0x1c
+unfolding numberIn
+little-past-the-end = refl
+
+pub little-written : little.written 2 7236 1 (9 ∷ 9 ∷ 9 ∷ 9 ∷ []) ≡ 9 ∷ 0x44 ∷ 0x1c ∷ 9 ∷ []
+unfolding writtenIn bytesIn splice
+little-written = refl
+
+pub little-no-place : little.written 2 7236 3 (9 ∷ 9 ∷ 9 ∷ 9 ∷ []) ≡ 9 ∷ 9 ∷ 9 ∷ 9 ∷ []
+unfolding writtenIn bytesIn splice
+little-no-place = refl
 
 -- FF FE is −2 (`negsuc 1`), and FF FF FF FF is −1
 pub minus-two : signed 2 0xfffe ≡ negsuc 1

@@ -2,6 +2,8 @@ pub mod Below
 pub mod Checks
 pub mod Examples
 pub mod Laid
+pub mod Layout
+pub mod LittleEndian
 pub mod Number
 pub mod Sequence
 pub mod Signed

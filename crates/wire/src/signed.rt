@@ -1,4 +1,4 @@
-// Two's complement in two and in four bytes (01: "A cursor position and a fragment's offset are two's complement").
+// Two's complement in two bytes (01: "A cursor position and a fragment's offset are two's complement").
 ghost use mathlib.Core.Path.{_≡_};
 ghost use Rattle.wire.specs.Signed.{signed, unsigned};
 
@@ -20,24 +20,4 @@ pub fn unsigned16(z: i16) -> u16
         return z as u16;
     }
     65535 - (-1 - z) as u16
-}
-
-// The number whose two's complement in four bytes is x.
-pub fn signed32(x: u32) -> i32
-    ensures { λ r. ⌜ r ≡ signed 4 x ⌝ }
-{
-    if x < 2147483648 {
-        return x as i32;
-    }
-    (x - 2147483648) as i32 + (-2147483648)
-}
-
-// The two's complement of z in four bytes.
-pub fn unsigned32(z: i32) -> u32
-    ensures { λ r. ⌜ r ≡ unsigned 4 z ⌝ }
-{
-    if 0 <= z {
-        return z as u32;
-    }
-    4294967295 - (-1 - z) as u32
 }

@@ -14,12 +14,11 @@ fn padded<const N: usize>(place: usize) -> [u8; N] {
 
 fn read_line(place: usize) -> String {
     format!(
-        "read {place} {} {} {} {} {}\n",
+        "read {place} {} {} {} {}\n",
         u8::from_be_bytes(padded(place)),
         u16::from_be_bytes(padded(place)),
         u32::from_be_bytes(padded(place)),
         i16::from_be_bytes(padded(place)),
-        i32::from_be_bytes(padded(place)),
     )
 }
 

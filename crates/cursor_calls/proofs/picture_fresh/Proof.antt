@@ -1,6 +1,6 @@
 -- The bytes of a picture that is not opened are all 0. Assumes nothing.
 use borrow.Author.Needs.{needs}
-use Rattle.little_endian.specs.Little.{bytes}
+use Rattle.wire.specs.Number.{bytesIn}
 use Rattle.cursor_fragment.specs.Start.{noStart}
 use Rattle.cursor_picture.specs.Picture.{freshPicture}
 use Rattle.cursor_layout.specs.PictureLayout.{startBytes, pictureBytes}
@@ -8,7 +8,7 @@ use Rattle.cursor_calls.proofs.picture_fresh.Statement.{statement}
 use Rattle.cursor_calls.proofs.picture_fresh.Tie as tie
 
 returns : tie.Need-returns
-unfolding pictureBytes startBytes freshPicture noStart bytes
+unfolding pictureBytes startBytes freshPicture noStart bytesIn
 returns c = c .before .before .fresh .ensures
 
 pub picture-fresh-spec : {M : Type 1} → statement M

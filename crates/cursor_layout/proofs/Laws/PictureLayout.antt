@@ -7,13 +7,14 @@ use lib.ListN.{length}
 use Rattle.cursor_fragment.specs.declared.start.Start.{Start}
 use Rattle.cursor_picture.specs.declared.Picture.{Picture}
 use Rattle.wire.specs.Laid.{laid}
-use Rattle.little_endian.specs.Layout.{flag}
-use Rattle.little_endian.specs.Little.{bytes}
+use Rattle.wire.specs.Layout.{flag}
+use Rattle.wire.specs.LittleEndian.{bytes}
+use Rattle.wire.specs.Number.{bytesIn}
 use Rattle.cursor_layout.specs.PictureLayout.{pictureLength, startBytes, pictureBytes, pictureOf, PictureReadsBack}
-use Rattle.little_endian.proofs.Laws.Layout.{Begins, laid-begins, before, number-in, flag-in}
+use Rattle.wire.proofs.Laws.Layout.{Begins, laid-begins, before, number-in, flag-in}
 
 pub start-length : (seen : Bool) (s : Start) → length (startBytes seen s) ≡ 6
-unfolding startBytes bytes
+unfolding startBytes bytesIn
 start-length seen s = refl
 
 -- the bytes of a picture before each of its places
@@ -40,7 +41,7 @@ module _ (q : Picture) where
   d13 = d11 ++ bytes 2 (q .start .«hot_x»)
 
   picture-begins : (xs : List ℕ) → pictureLength ≤ length xs → Begins pictureLength (d13 ++ bytes 2 (q .start .«hot_y»)) (laid (pictureBytes q) xs)
-  unfolding pictureBytes startBytes bytes
+  unfolding pictureBytes startBytes bytesIn
   picture-begins xs h = laid-begins pictureLength (pictureBytes q) xs refl h
 
 pub picture-reads-back : PictureReadsBack

@@ -12,10 +12,11 @@ use Rattle.wire.specs.Signed.{signed, unsigned}
 use Rattle.wire.proofs.Laws.Signed.{signed-toZ, unsigned-ofZ}
 use Rattle.cursor_pointer.specs.declared.Pointer.{Pointer}
 use Rattle.wire.specs.Laid.{laid}
-use Rattle.little_endian.specs.Layout.{flag}
-use Rattle.little_endian.specs.Little.{bytes}
+use Rattle.wire.specs.Layout.{flag}
+use Rattle.wire.specs.LittleEndian.{bytes}
+use Rattle.wire.specs.Number.{bytesIn}
 use Rattle.cursor_layout.specs.PointerLayout.{pointerLength, pointerBytes, pointerOf, PointerReadsBack}
-use Rattle.little_endian.proofs.Laws.Layout.{Begins, laid-begins, before, number-in, flag-in}
+use Rattle.wire.proofs.Laws.Layout.{Begins, laid-begins, before, number-in, flag-in}
 
 -- two's complement goes back, and two bytes hold it
 module _ (z : ℤ) (h : mag z < 32768) where
@@ -46,7 +47,7 @@ module _ (p : Pointer) where
   d5 = d3 ++ bytes 2 (unsigned 2 (p .x))
 
   pointer-begins : (xs : List ℕ) → pointerLength ≤ length xs → Begins pointerLength (d5 ++ bytes 2 (unsigned 2 (p .y))) (laid (pointerBytes p) xs)
-  unfolding pointerBytes bytes
+  unfolding pointerBytes bytesIn
   pointer-begins xs h = laid-begins pointerLength (pointerBytes p) xs refl h
 
 pub pointer-reads-back : PointerReadsBack

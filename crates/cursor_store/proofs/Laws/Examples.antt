@@ -5,7 +5,7 @@ use mathlib.Core.Logic.{inl, inr}
 use mathlib.Core.Bool.{true, false≢true}
 use native.Mathlib.Omega.{arith}
 use lib.ListN.{getD}
-use Rattle.wire.specs.Number.{number}
+use Rattle.wire.specs.Number.{numberIn}
 use Rattle.wire.specs.Signed.{signed}
 use Rattle.wire.specs.Splice.{splice}
 use Rattle.scan.specs.Below.{someBelow}
@@ -39,27 +39,27 @@ is-opened = record { opened = refl; same-id = refl; same-total = refl; clear = r
 
 module _ (sequence : ℕ) where
   start-cut : CutFrom whole (start sequence 1)
-  unfolding fragmentChecks fragmentFrame firstOf frameChecks rtpHolds unusedZero number takesType headerLength imageData offsetBits placeOf outside signed fragmentAs
+  unfolding fragmentChecks fragmentFrame firstOf frameChecks rtpHolds unusedZero numberIn takesType headerLength imageData offsetBits placeOf outside signed fragmentAs
   start-cut = record { well-formed = refl; same-id = refl; same-total = refl; same-bytes = refl }
 
   middle-cut : CutFrom whole (middle sequence)
-  unfolding fragmentChecks fragmentFrame firstOf frameChecks rtpHolds unusedZero number signed takesType headerLength imageData offsetBits placeOf outside fragmentAs
+  unfolding fragmentChecks fragmentFrame firstOf frameChecks rtpHolds unusedZero numberIn signed takesType headerLength imageData offsetBits placeOf outside fragmentAs
   middle-cut = record { well-formed = refl; same-id = refl; same-total = refl; same-bytes = refl }
 
   last-cut : CutFrom whole (last sequence)
-  unfolding fragmentChecks fragmentFrame firstOf frameChecks rtpHolds unusedZero number signed takesType headerLength imageData offsetBits placeOf outside fragmentAs
+  unfolding fragmentChecks fragmentFrame firstOf frameChecks rtpHolds unusedZero numberIn signed takesType headerLength imageData offsetBits placeOf outside fragmentAs
   last-cut = record { well-formed = refl; same-id = refl; same-total = refl; same-bytes = refl }
 
 forwards-taken : Taken whole opened forwards
-unfolding next stored assembled assembledAs storeStatus storeChecks held hasRoom judging openedRules otherRules ofOpened sameStart startDiffers bytesDiffer conflictIn someBelow lesser openedFor clearedFor imageAfter marksAfter withStart pictureAfter splice fragmentChecks fragmentFrame firstOf frameChecks rtpHolds unusedZero number signed takesType headerLength imageData startOf noStart startIn offsetBits placeOf outside fragmentAs
+unfolding next stored assembled assembledAs storeStatus storeChecks held hasRoom judging openedRules otherRules ofOpened sameStart startDiffers bytesDiffer conflictIn someBelow lesser openedFor clearedFor imageAfter marksAfter withStart pictureAfter splice fragmentChecks fragmentFrame firstOf frameChecks rtpHolds unusedZero numberIn signed takesType headerLength imageData startOf noStart startIn offsetBits placeOf outside fragmentAs
 forwards-taken = (start-cut 30, (refl, (middle-cut 31, (last-cut 32, (middle-cut 31, tt)))))
 
 backwards-taken : Taken whole opened backwards
-unfolding next stored assembled assembledAs storeStatus storeChecks held hasRoom judging openedRules otherRules ofOpened sameStart startDiffers bytesDiffer conflictIn someBelow lesser openedFor clearedFor imageAfter marksAfter withStart pictureAfter splice fragmentChecks fragmentFrame firstOf frameChecks rtpHolds unusedZero number signed takesType headerLength imageData startOf noStart startIn offsetBits placeOf outside fragmentAs
+unfolding next stored assembled assembledAs storeStatus storeChecks held hasRoom judging openedRules otherRules ofOpened sameStart startDiffers bytesDiffer conflictIn someBelow lesser openedFor clearedFor imageAfter marksAfter withStart pictureAfter splice fragmentChecks fragmentFrame firstOf frameChecks rtpHolds unusedZero numberIn signed takesType headerLength imageData startOf noStart startIn offsetBits placeOf outside fragmentAs
 backwards-taken = (last-cut 7, (start-cut 39, (refl, (middle-cut 2, (start-cut 39, tt)))))
 
 forwards-agree : Agreeing opened forwards
-unfolding number fragmentAs startIn startOf
+unfolding numberIn fragmentAs startIn startOf
 forwards-agree = record {
   common = record { «image_type» = 3; «hot_x» = 1; «hot_y» = 2 };
   seen = λ h. absurd (false≢true h);
@@ -67,7 +67,7 @@ forwards-agree = record {
 }
 
 backwards-agree : Agreeing opened backwards
-unfolding number fragmentAs startIn startOf
+unfolding numberIn fragmentAs startIn startOf
 backwards-agree = record {
   common = record { «image_type» = 3; «hot_x» = 1; «hot_y» = 2 };
   seen = λ h. absurd (false≢true h);
@@ -75,7 +75,7 @@ backwards-agree = record {
 }
 
 same-fragments : SameFragments forwards backwards
-unfolding number fragmentAs startIn startOf noStart placeOf offsetBits signed imageData headerLength
+unfolding numberIn fragmentAs startIn startOf noStart placeOf offsetBits signed imageData headerLength
 same-fragments = (
   (inr (inl (record { same-type = refl; same-offset = refl; same-data = refl; same-start = refl })), (inr (inr (inl (record { same-type = refl; same-offset = refl; same-data = refl; same-start = refl }))), (inl (record { same-type = refl; same-offset = refl; same-data = refl; same-start = refl }), (inr (inr (inl (record { same-type = refl; same-offset = refl; same-data = refl; same-start = refl }))), tt)))),
   (inr (inr (inl (record { same-type = refl; same-offset = refl; same-data = refl; same-start = refl }))), (inl (record { same-type = refl; same-offset = refl; same-data = refl; same-start = refl }), (inr (inl (record { same-type = refl; same-offset = refl; same-data = refl; same-start = refl })), (inl (record { same-type = refl; same-offset = refl; same-data = refl; same-start = refl }), tt)))),

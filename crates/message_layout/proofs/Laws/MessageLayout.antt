@@ -1,6 +1,7 @@
 -- Fields written one right after the other are the record's bytes, and each reads back at its place. Assumes nothing.
 use Prim.Native.Nat.{ℕ, _+_, _^_, _≤_, _<_}
 use mathlib.Core.Path.{_≡_, sym}
+use mathlib.Core.Bool.{true}
 use mathlib.Core.List.{List, [], _++_, append-assoc}
 use native.Mathlib.Omega.{arith}
 use lib.ListN.{length, length-append}
@@ -13,11 +14,12 @@ use Rattle.message_reader.specs.Theorems.{AcceptedExactly}
 use Rattle.message_reader.proofs.Laws.Reading.{accepted-exactly}
 use Rattle.message_reader.proofs.Laws.WellFormed.{each-field, sound}
 use Rattle.wire.specs.Laid.{laid}
-use Rattle.little_endian.specs.Layout.{flag}
-use Rattle.little_endian.specs.Little.{bytes, written}
+use Rattle.wire.specs.Layout.{flag}
+use Rattle.wire.specs.LittleEndian.{bytes, written}
 use Rattle.message_layout.specs.MessageLayout.{fieldBytes, fieldIn, messageBytes, messageIn, Fits, MessageBack, AcceptedBack}
-use Rattle.little_endian.proofs.Laws.Layout.{nothing, next, next-part, whole, Begins, laid-begins, before-part, before, number-in, flag-in}
-use Rattle.little_endian.proofs.Laws.Little.{length-bytes}
+use Rattle.wire.proofs.Laws.Layout.{nothing, Begins, laid-begins, before-part, before, number-in, flag-in}
+use Rattle.wire.proofs.Laws.Written.{next, next-part, whole}
+use Rattle.wire.proofs.Laws.Number.{length-bytes}
 
 pub length-field : (f : Field) → length (fieldBytes f) ≡ 9
 unfolding fieldBytes
@@ -114,7 +116,7 @@ pub accepted-back : AcceptedBack
 unfolding AcceptedExactly
 accepted-back s m xs small e room =
     let a = accepted-exactly s m .0 e in
-    let size : length s < 256 ^ 2 = rw (sym (a .headed .size)) (number-small 2 0 s small) in
+    let size : length s < 256 ^ 2 = rw (sym (a .headed .size)) (number-small true 2 0 s small) in
     let command = sound s (a .reached) .command in
     message-back m xs room (omega (arith, small 3))
     (λ t.

@@ -1,8 +1,8 @@
 -- The three numbers are laid one after the other. Assumes nothing.
 use Prim.Native.Nat.{ℕ}
 use mathlib.Core.Path.{ap, _∙_}
-use Rattle.little_endian.specs.Little.{written}
-use Rattle.little_endian.proofs.Laws.Layout.{flag-byte}
+use Rattle.wire.specs.LittleEndian.{written}
+use Rattle.wire.proofs.Laws.Layout.{flag-byte}
 use denote.Ref.{now}
 use Rattle.message_layout.proofs.Laws.MessageLayout.{field-written}
 use borrow.Author.Needs.{needs}

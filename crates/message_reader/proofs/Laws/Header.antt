@@ -1,7 +1,7 @@
 -- The rule of Size. Assumes nothing.
 use Prim.Native.Nat.{ℕ, _+_, _≤_, _<_}
 use mathlib.Core.Path.{_≡_, refl, ap, subst}
-use mathlib.Core.Bool.{cond}
+use mathlib.Core.Bool.{true, cond}
 use mathlib.Core.List.{List, _++_}
 use native.Mathlib.Omega.{arith}
 use native.Mathlib.Decide.{decLt}
@@ -79,12 +79,12 @@ size-same s t h l e = simp (le-ltb (length s) 4 h, le-ltb (length t) 4 l, e)
 pub size-append : (s rest : List ℕ) → 4 ≤ length s → readSize (s ++ rest) ≡ readSize s
 size-append s rest h =
     size-same (s ++ rest) s (simp length-append (omega arith)) h
-    (number-same 2 (s ++ rest) s 0 0 (λ k l. List·getD-append s rest 0 (0 + k) (omega arith)))
+    (number-same true 2 (s ++ rest) s 0 0 (λ k l. List·getD-append s rest 0 (0 + k) (omega arith)))
 
 pub size-take : (s : List ℕ) (n : ℕ) → 4 ≤ n → readSize (take n s) ≡ readSize s
 size-take s n h = elim (decLt (length s) n) [
   | yes l ↦ ap readSize (take-all n s (omega arith))
   | no l ↦
       let same : length (take n s) ≡ n = length-take-le n s (omega arith) in
-      size-same (take n s) s (omega arith) (omega arith) (number-same 2 (take n s) s 0 0 (λ k b. getD-take n s (0 + k) 0 (omega arith)))
+      size-same (take n s) s (omega arith) (omega arith) (number-same true 2 (take n s) s 0 0 (λ k b. getD-take n s (0 + k) 0 (omega arith)))
 ]

@@ -240,7 +240,7 @@ headed-read s h =
 pub headed-short : (s : List ℕ) → ((k : ℕ) → getD s k 0 < 256) → Headed s → length s ≤ 65535
 headed-short s small h =
     let e = h .size in
-    let n = number-small 2 0 s small in
+    let n = number-small true 2 0 s small in
     omega arith
 
 of-read : (s : List ℕ) → OfAnswer s (readMessage s)

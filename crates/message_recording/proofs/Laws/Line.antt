@@ -1,6 +1,7 @@
 -- The tests on a line's bytes look at its front alone. Assumes nothing.
 use Prim.Native.Nat.{ℕ, zero, suc, _+_, _≤_, _<_}
 use mathlib.Core.Path.{_≡_, refl, sym, ap, _∙_, subst}
+use mathlib.Core.Bool.{true}
 use mathlib.Core.List.{List, [], _∷_, _++_}
 use native.Mathlib.Omega.{arith}
 use native.Mathlib.Decide.{decLt}
@@ -36,7 +37,7 @@ unfolding neededOf
 needed-size s h l = ap bytesFor (size-there s h l)
 
 need : (s : List ℕ) (x : Size) → readSize s ≡ x → (4 ≤ bytesFor x) × (Bytes s → bytesFor x ≤ 65535)
-need s (size.Declared n) e = let d = size-declared s n e in (d .counted, λ b. let l = d .size in omega (arith, number-small 2 0 s b))
+need s (size.Declared n) e = let d = size-declared s n e in (d .counted, λ b. let l = d .size in omega (arith, number-small true 2 0 s b))
 need s (size.Refused st) e = (omega arith, λ b. omega arith)
 
 pub needed-four : (s : List ℕ) → 4 ≤ neededOf s

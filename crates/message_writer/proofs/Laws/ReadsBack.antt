@@ -12,7 +12,7 @@ use borrow.Author.Tests.{ltb-false, not-false}
 use lib.Dec.{ltb}
 use lib.ListN.{length, take, drop, getD, length-drop}
 use lib.Seq.{getD-append-add, drop-append-add, take-at, length-take-le}
-use Rattle.wire.specs.Number.{number, bytes}
+use Rattle.wire.specs.Number.{numberIn, bytesIn}
 use Rattle.wire.specs.declared.status.Status.{Status}
 use Rattle.message_rules.specs.declared.record.Field.{Field}
 use Rattle.message_rules.specs.declared.record.Message.{Message}
@@ -142,7 +142,7 @@ module _ (s : List ℕ) (m : Message) (w : writable (length s) m ≡ true) where
     type-read = let z : sizeTo m t ≡ sizeTo m t + 0 = omega arith in ap (λ (i : ℕ). getD x i 0) z ∙ here 0
 
     length-read : lengthAt x (sizeTo m t) ≡ fieldOf m t .len
-    unfolding number bytes
+    unfolding numberIn bytesIn
     length-read =
         let a = here 1 in
         let b = here 2 in
@@ -155,7 +155,7 @@ module _ (s : List ℕ) (m : Message) (w : writable (length s) m ≡ true) where
     next-read = rw length-read (sym (size-there m t p))
 
     value-read : valueOf x (placed m t) ≡ valueOf s (fieldOf m t)
-    unfolding bytes
+    unfolding bytesIn
     value-read =
         let f = fieldOf m t in
         let v = valueOf s f in
@@ -184,7 +184,7 @@ module _ (s : List ℕ) (m : Message) (w : writable (length s) m ≡ true) where
         rw (n, type-read, v) at y
 
   headed : Headed x
-  unfolding messageOf number bytes
+  unfolding messageOf numberIn bytesIn
   headed =
       record {
         four = omega (arith, message-length s m w, size-least m 8);
@@ -194,7 +194,7 @@ module _ (s : List ℕ) (m : Message) (w : writable (length s) m ≡ true) where
       }
 
   command-read : commandIn x ≡ m .command
-  unfolding messageOf bytes
+  unfolding messageOf bytesIn
   command-read = refl
 
   begin : Reached x (sizeTo m 0) (emptyOf (m .command))

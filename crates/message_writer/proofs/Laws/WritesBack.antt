@@ -56,7 +56,7 @@ ok-field s m k t =
 accepted-writable : (s : List ℕ) (m : Message) → Bytes s → WellFormed s m → writable (length s) m ≡ true
 unfolding writable
 accepted-writable s m b k =
-    let small = number-small 2 0 s b in
+    let small = number-small true 2 0 s b in
     simp (
       k .known,
       all-below (fieldOk (length s) m) 8 (λ t h. ok-field s m k t),
@@ -69,7 +69,7 @@ module _ (s : List ℕ) (b : Bytes s) where
   -- header and TLV, as they are written
   head-bytes : Headed s → take 4 s ≡ headBytes (length s) (commandIn s)
   head-bytes h =
-      let two : take 2 s ≡ bytes 2 (length s) = sym (writes-back 2 0 s (omega (arith, h .four)) b) ∙ ap (bytes 2) (h .size) in
+      let two : take 2 s ≡ bytes 2 (length s) = sym (writes-back true 2 0 s (omega (arith, h .four)) b) ∙ ap (bytes 2) (h .size) in
       take-add 2 2 s
       ∙ rw (two, drop-cons s 2 0 (omega (arith, h .four)), drop-cons s 3 0 (omega (arith, h .four)), h .version)
 
@@ -85,7 +85,7 @@ module _ (s : List ℕ) (b : Bytes s) where
         drop-cons s at 0 (omega arith),
         a,
         take-add 2 n (drop (at + 1) s),
-        sym (writes-back 2 (at + 1) s (omega arith) b),
+        sym (writes-back true 2 (at + 1) s (omega arith) b),
         drop-drop 2 (at + 1) s,
         z,
       )

@@ -10,12 +10,12 @@ use borrow.Author.Tests.{leb-true, lt-ltb, le-ltb, eqb-false, not-true}
 use lib.Dec.{leb, eqb}
 use lib.ListN.{length, drop, length-append, length-drop}
 use lib.Seq.{length-take-le}
-use Rattle.wire.specs.Number.{bytes}
+use Rattle.wire.specs.Number.{bytesIn, bytes}
 use Rattle.wire.specs.Splice.{splice}
 use Rattle.wire.specs.declared.status.Status.the-variants as status
 use Rattle.wire.proofs.Laws.Number.{length-bytes}
 use Rattle.wire.proofs.Laws.Splice.{length-splice}
-use Rattle.wire.proofs.Laws.Written.{next-bytes}
+use Rattle.wire.proofs.Laws.Written.{Written, next-part}
 use Rattle.message_rules.specs.declared.record.Field.{Field}
 use Rattle.message_rules.specs.declared.record.Message.{Message}
 use Rattle.message_writer.specs.declared.Written.the-variants as answer
@@ -31,7 +31,7 @@ use Rattle.wire.proofs.Laws.Below.{below-all}
 -- ---- bytes in the output
 
 pub one-byte : (v : ℕ) → v < 256 → bytes 1 v ≡ v ∷ []
-unfolding bytes
+unfolding bytesIn
 one-byte v h = let e : v % 256 ≡ v = omega arith in rw e
 
 splice-front : (ds xs : List ℕ) → splice 0 ds xs ≡ ds ++ drop (length ds) xs
@@ -125,8 +125,8 @@ module _ (s : List ℕ) (m : Message) (xs : List ℕ) (ok : allBelow 8 (fieldOk 
           → zs ≡ splice 4 (bodyTo s m (t + 1)) xs
       laid-next ys zs a b =
           let l = body-length m s t (λ u b. ok-type u (omega arith)) in
-          next-bytes 4 (sizeTo m t) (bodyTo s m t) (tlvBytes s t (fieldOf m t)) xs ys zs
-          (omega arith) (omega (arith, tlv-length m s (fieldOf m t) tlv-within t, tlv-room)) a b
+          let w : Written true 4 (sizeTo m t) (bodyTo s m t) xs ys = record { all = a; end = l } in
+          next-part w (tlvBytes s t (fieldOf m t)) (3 + fieldOf m t .len) (tlv-length m s (fieldOf m t) tlv-within t) b (omega (arith, tlv-room)) .all
           ∙ rw (body-there m s t p)
 
 -- ---- a record that can be written
@@ -186,7 +186,8 @@ module _ (s : List ℕ) (m : Message) (out : List ℕ) where
         let l = message-length s m w in
         let four : length head ≡ 4 = simp (length-append, length-bytes) in
         let n = length-append head (bodyTo s m 8) in
-        next-bytes 0 4 head (bodyTo s m 8) out xs ys (omega arith) (omega arith) a b
+        let w : Written true 0 4 head out xs = record { all = a; end = omega arith } in
+        next-part w (bodyTo s m 8) (length (bodyTo s m 8)) refl b (omega arith) .all
         ∙ splice-front (messageOf s m) out
         ∙ ap (λ (k : ℕ). messageOf s m ++ drop k out) l
         ∙ wrote h .1

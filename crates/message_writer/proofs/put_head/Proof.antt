@@ -1,15 +1,15 @@
 -- The three numbers are laid one after the other. Assumes nothing.
-use Prim.Native.Nat.{ℕ, _+_, _≤_, _<_}
+use Prim.Native.Nat.{ℕ, _≤_, _<_}
 use mathlib.Core.Path.{_≡_, ap, _∙_}
-use mathlib.Core.List.{List, _++_, append-assoc}
+use mathlib.Core.Bool.{true}
+use mathlib.Core.List.{List, append-assoc}
 use native.Mathlib.Omega.{arith}
 use denote.Ref.{now}
-use lib.ListN.{length, length-append}
-use Rattle.wire.specs.Number.{bytes, written}
+use lib.ListN.{length}
+use Rattle.wire.specs.Number.{written}
 use Rattle.wire.specs.Splice.{splice}
-use Rattle.wire.proofs.Laws.Number.{length-bytes}
 use Rattle.message_writer.specs.Writing.{headBytes}
-use Rattle.wire.proofs.Laws.Written.{first-number, next-number}
+use Rattle.wire.proofs.Laws.Written.{none, next}
 use Rattle.message_writer.proofs.Laws.Writing.{one-byte}
 use borrow.Author.Needs.{needs}
 use Rattle.message_writer.proofs.put_head.Statement.{statement}
@@ -19,10 +19,9 @@ laid
     : (size c : ℕ) (xs ys zs ds : List ℕ) → c < 256 → 4 ≤ length xs → ys ≡ written 2 size 0 xs → zs ≡ written 1 1 2 ys → ds ≡ written 1 c 3 zs
     → ds ≡ splice 0 (headBytes size c) xs
 laid size c xs ys zs ds small h p q r =
-    let two = length-bytes 2 size in
-    let three : length (bytes 2 size ++ bytes 1 1) ≡ 3 = simp (length-append, length-bytes) in
-    next-number 1 c 0 3 (bytes 2 size ++ bytes 1 1) xs zs ds (omega arith) (omega arith)
-    (next-number 1 1 0 2 (bytes 2 size) xs ys zs (omega arith) (omega arith) (first-number 2 size 0 xs ys (omega arith) p) q) r
+    let sized = next (none true 0 xs) 2 size p (omega arith) in
+    let versioned = next sized 1 1 q (omega arith) in
+    next versioned 1 c r (omega arith) .all
     ∙ ap (λ (l : List ℕ). splice 0 l xs) (rw (append-assoc, one-byte 1 (omega arith), one-byte c small))
 
 cast-put-u16 : tie.Need-cast-put-u16

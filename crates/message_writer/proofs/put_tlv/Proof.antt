@@ -1,19 +1,19 @@
 -- Type, Length and the value are laid one after the other. Assumes nothing.
 use Prim.Native.Nat.{ℕ, _+_, _-_, _≤_, _<_}
 use mathlib.Core.Path.{_≡_, refl, ap, _∙_}
-use mathlib.Core.List.{List, _++_}
+use mathlib.Core.Bool.{true}
+use mathlib.Core.List.{List}
 use native.Mathlib.Omega.{arith}
 use borrow.Rule.Slice.PartMut.{putMid}
 use denote.Ref.{now}
-use lib.ListN.{length, take, drop, length-append, length-drop}
+use lib.ListN.{length, take, drop, length-drop}
 use lib.Seq.{length-take-le}
-use Rattle.wire.specs.Number.{bytes, written}
+use Rattle.wire.specs.Number.{written}
 use Rattle.wire.specs.Splice.{splice}
-use Rattle.wire.proofs.Laws.Number.{length-bytes}
 use Rattle.wire.proofs.Laws.Splice.{part-back}
 use Rattle.message_rules.specs.declared.record.Field.{Field}
 use Rattle.message_writer.specs.Writing.{tlvBytes}
-use Rattle.wire.proofs.Laws.Written.{first-number, next-number, next-bytes}
+use Rattle.wire.proofs.Laws.Written.{none, next, next-part}
 use Rattle.message_writer.proofs.Laws.Writing.{one-byte}
 use Rattle.scan.proofs.Laws.Bytes.{copied-all}
 use borrow.Author.Needs.{needs}
@@ -25,13 +25,13 @@ laid
     → ys ≡ written 1 kind at xs → zs ≡ written 2 (f .len) (at + 1) ys → vs ≡ take (f .len) (drop (f .at) s) → n ≡ f .len
     → putMid (at + 3) n zs vs ≡ splice at (tlvBytes s kind f) xs
 laid s kind f at n xs ys zs vs small inside h p q v e =
-    let one = length-bytes 1 kind in
     let room : f .len ≤ length (drop (f .at) s) = simp length-drop (omega arith) in
     let long : length vs ≡ f .len = ap length v ∙ length-take-le (f .len) (drop (f .at) s) room in
-    let three : length (bytes 1 kind ++ bytes 2 (f .len)) ≡ 3 = simp (length-append, length-bytes) in
+    let i : at + 3 ≡ at + 1 + 2 = omega arith in
+    let typed = next (none true at xs) 1 kind p (omega arith) in
+    let sized = next typed 2 (f .len) q (omega arith) in
     part-back (at + 3) n zs vs (omega arith)
-    ∙ next-bytes at (at + 3) (bytes 1 kind ++ bytes 2 (f .len)) vs xs zs (splice (at + 3) vs zs) (omega arith) (omega arith)
-    (next-number 2 (f .len) at (at + 1) (bytes 1 kind) xs ys zs (omega arith) (omega arith) (first-number 1 kind at xs ys (omega arith) p) q) refl
+    ∙ next-part sized vs (f .len) long (ap (λ (to : ℕ). splice to vs zs) i) (omega arith) .all
     ∙ rw (v, one-byte kind small)
 
 cast-from : tie.Need-cast-from

@@ -11,14 +11,15 @@ use Rattle.session_table.specs.declared.record.State.{State}
 use Rattle.session_table.specs.declared.record.State.the-variants as state
 use Rattle.session_table.specs.declared.record.Session.{Session}
 use Rattle.wire.specs.Laid.{laid}
-use Rattle.little_endian.specs.Layout.{flag}
-use Rattle.little_endian.specs.Little.{bytes}
+use Rattle.wire.specs.Layout.{flag}
+use Rattle.wire.specs.LittleEndian.{bytes}
+use Rattle.wire.specs.Number.{bytesIn}
 use Rattle.session_layout.specs.SessionLayout.{stateOf, stateNumber, idAt, sessionBytes, sessionOf, SessionReadsBack}
 use Rattle.wire.proofs.Laws.Laid.{laid-fits}
-use Rattle.little_endian.proofs.Laws.Layout.{Begins, laid-begins, before-part, before, number-in, flag-in}
+use Rattle.wire.proofs.Laws.Layout.{Begins, laid-begins, before-part, before, number-in, flag-in}
 
 pub session-length : (s : Session) → length (s .source .bytes) ≡ 16 → length (sessionBytes s) ≡ 19
-unfolding sessionBytes bytes
+unfolding sessionBytes bytesIn
 session-length s e = omega (arith, e)
 
 state-small : (s : State) → stateNumber s < 256
@@ -39,7 +40,7 @@ state-back state.Projecting = refl
 state-back state.Closed = refl
 
 id-back : (s : Session) (xs : List ℕ) → length (s .source .bytes) ≡ 16 → 19 ≤ length xs → idAt 3 (laid (sessionBytes s) xs) ≡ s .source .bytes
-unfolding idAt sessionBytes bytes copied splice
+unfolding idAt sessionBytes bytesIn copied splice
 id-back s xs e h =
     let bs = s .source .bytes in
     let rest = drop (0 + length (sessionBytes s)) xs in

@@ -2,17 +2,18 @@
 use mathlib.Core.Path.{sym}
 use native.Mathlib.Omega.{arith}
 use denote.Ref.{now}
-use Rattle.little_endian.specs.Little.{bytes}
+use Rattle.wire.specs.Number.{bytesIn}
 use Rattle.cursor_layout.specs.PictureLayout.{startBytes, pictureBytes}
 use Rattle.wire.proofs.Laws.Laid.{laid-short}
-use Rattle.little_endian.proofs.Laws.Layout.{nothing, next, next-as, next-part, whole, flag-byte}
+use Rattle.wire.proofs.Laws.Layout.{nothing, flag-byte}
+use Rattle.wire.proofs.Laws.Written.{next, next-as, next-part, whole}
 use Rattle.cursor_layout.proofs.Laws.PictureLayout.{start-length}
 use borrow.Author.Needs.{needs}
 use Rattle.cursor_layout.proofs.picture_layout.write.Statement.{statement}
 use Rattle.cursor_layout.proofs.picture_layout.write.Tie as tie
 
 returns : tie.Need-returns
-unfolding pictureBytes startBytes bytes
+unfolding pictureBytes startBytes bytesIn
 returns c =
     let a = c .before .before .args in
     sym (laid-short (pictureBytes (a .picture)) (now (a .«record»)) (c .if1 .taken))

@@ -2,7 +2,8 @@
 use native.Mathlib.Omega.{arith}
 use denote.Ref.{now}
 use Rattle.cursor_layout.specs.PictureLayout.{startBytes}
-use Rattle.little_endian.proofs.Laws.Layout.{nothing, next, next-as, flag-byte}
+use Rattle.wire.proofs.Laws.Layout.{nothing, flag-byte}
+use Rattle.wire.proofs.Laws.Written.{next, next-as}
 use borrow.Author.Needs.{needs}
 use Rattle.cursor_layout.proofs.picture_layout.write_start.Statement.{statement}
 use Rattle.cursor_layout.proofs.picture_layout.write_start.Tie as tie

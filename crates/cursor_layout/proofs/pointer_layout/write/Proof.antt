@@ -6,16 +6,17 @@ use mir.ValLaws.{toZ-ofZ}
 use native.Mathlib.Omega.{arith}
 use denote.Ref.{now}
 use Rattle.wire.specs.Signed.{unsigned}
-use Rattle.little_endian.specs.Little.{bytes}
+use Rattle.wire.specs.Number.{bytesIn}
 use Rattle.cursor_layout.specs.PointerLayout.{pointerBytes}
 use Rattle.wire.proofs.Laws.Laid.{laid-short}
-use Rattle.little_endian.proofs.Laws.Layout.{nothing, next, next-as, whole, flag-byte}
+use Rattle.wire.proofs.Laws.Layout.{nothing, flag-byte}
+use Rattle.wire.proofs.Laws.Written.{next, next-as, whole}
 use borrow.Author.Needs.{needs}
 use Rattle.cursor_layout.proofs.pointer_layout.write.Statement.{statement}
 use Rattle.cursor_layout.proofs.pointer_layout.write.Tie as tie
 
 returns : tie.Need-returns
-unfolding pointerBytes bytes
+unfolding pointerBytes bytesIn
 returns c =
     let a = c .before .before .args in
     sym (laid-short (pointerBytes (a .pointer)) (now (a .«record»)) (c .if1 .taken))

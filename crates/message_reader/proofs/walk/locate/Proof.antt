@@ -6,7 +6,7 @@ use native.Mathlib.Omega.{arith}
 use borrow.Author.Needs.{needs}
 use denote.Ref.{now}
 use lib.ListN.{length}
-use Rattle.wire.specs.Number.{number}
+use Rattle.wire.specs.Number.{numberIn, number}
 use Rattle.wire.specs.Status.{numberOf}
 use Rattle.message_rules.specs.Record.{emptyOf}
 use Rattle.message_reader.specs.Reading.{commandIn, tlvsFrom}
@@ -18,7 +18,7 @@ use Rattle.message_reader.proofs.walk.locate.Tie as tie
 
 -- the byte that is read is the command
 command-read : (s : List ℕ) (r : ℕ) → r ≡ number 1 s 3 → r ≡ commandIn s
-unfolding number
+unfolding numberIn
 command-read s r e = omega (arith, e)
 
 returns : tie.Need-returns
