@@ -8,7 +8,19 @@ use reference::cursor::{self, Picture, Pointer};
 use crate::packets::{continuation, position, start, Start};
 
 fn pointer_text(p: Pointer) -> String {
-    format!(" pointer {} {} {} {}", p.known as u8, p.last, p.x, p.y)
+    format!(" pointer {}", pointer_numbers(p))
+}
+
+/// The fields of a pointer.
+pub fn pointer_numbers(p: Pointer) -> String {
+    format!("{} {} {} {}", p.known as u8, p.last, p.x, p.y)
+}
+
+/// The fields of a picture's record.
+pub fn picture_text(q: Picture) -> String {
+    let opened = format!("{} {} {} {}", q.open as u8, q.id, q.total, q.opening_sequence);
+    let start = format!("{} {} {} {}", q.start_seen as u8, q.image_type, q.hot_x, q.hot_y);
+    format!(" picture {opened} {start}")
 }
 
 /// Both records, a picture and marks, and the lines printed so far.
@@ -48,18 +60,10 @@ impl<'a> Receiver<'a> {
             }
             Err(refused) => refused.number as u8,
         };
-        let q = self.record;
         let line = format!(
-            "store {number}{} picture {} {} {} {} {} {} {} {} bytes{} marks{}\n",
+            "store {number}{}{} bytes{} marks{}\n",
             pointer_text(self.pointer),
-            q.open as u8,
-            q.id,
-            q.total,
-            q.opening_sequence,
-            q.start_seen as u8,
-            q.image_type,
-            q.hot_x,
-            q.hot_y,
+            picture_text(self.record),
             self.five(&self.image),
             self.five(&self.marks),
         );

@@ -8,6 +8,7 @@
 mod cursor;
 mod limits;
 mod packets;
+mod readers;
 mod replay;
 mod session;
 mod vectors;
@@ -21,12 +22,13 @@ use std::{env, fs};
 type Contents = fn() -> Vec<u8>;
 
 /// The stored files, each with what it must hold.
-const FILES: [(&str, Contents); 7] = [
+const FILES: [(&str, Contents); 8] = [
     ("run_wire/stdout", || wire::lines().into()),
     ("vectors/stdout", || vectors::lines().into()),
     ("run_session/stdout", || session::lines().into()),
     ("run_limits/stdout", || limits::lines().into()),
     ("run_cursor/stdout", || cursor::lines().into()),
+    ("run_packets/stdout", || readers::lines().into()),
     ("replay/data/stream", replay::stream),
     ("replay/stdout", || replay::lines().into()),
 ];
