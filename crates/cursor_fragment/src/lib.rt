@@ -10,6 +10,7 @@
 //      26      2  HotSpotXPos
 //      28      2  HotSpotYPos
 //      30         ImageData, at offset 0
+pub mod continuation;
 pub mod start;
 
 ghost use mathlib.Core.Path.{_≡_};
@@ -20,6 +21,7 @@ ghost use Rattle.wire.specs.Checks.{firstOf};
 ghost use Rattle.cursor_packet.specs.Frame.{typeOf};
 ghost use Rattle.cursor_fragment.specs.Fragment.{takesType, isStart, headerLength, imageData, offsetBits, offsetOf, placeOf, outside, fragmentAs, readFragment};
 ghost use Rattle.cursor_fragment.specs.Parsing.{bodyChecks, noFragment, refusedAs, parsedAs, parsed};
+use continuation::Continuation;
 use cursor_packet::frame;
 use cursor_packet::rtp;
 use cursor_packet::rtp::Rtp;
@@ -27,10 +29,6 @@ use start::Start;
 use wire::number;
 use wire::status;
 use wire::status::Status;
-
-// A continuation's type, and its least PacketMsgSize: all but the data.
-const CONTINUATION: u8 = 3;
-const CONTINUATION_HEADER: usize = 13;
 
 // A start or a continuation, but for its data and a start's position, which is the pointer's. A start stands at offset 0; a continuation has
 // start fields 0.
@@ -70,7 +68,7 @@ fn is_taken(packet: &[u8]) -> bool
     if kind == Start::TYPE {
         return true;
     }
-    kind == CONTINUATION
+    kind == Continuation::TYPE
 }
 
 fn header(starts: bool) -> usize
@@ -79,7 +77,7 @@ fn header(starts: bool) -> usize
     if starts {
         Start::HEADER
     } else {
-        CONTINUATION_HEADER
+        Continuation::HEADER
     }
 }
 

@@ -16,12 +16,12 @@ ghost use lib.ListN.{length};
 ghost use Rattle.wire.specs.Splice.{splice};
 ghost use Rattle.wire.specs.Laid.{laid};
 ghost use Rattle.message_layout.specs.MessageLayout.{fieldBytes, fieldIn, messageBytes, messageIn};
+use message_rules::record::Field;
+use message_rules::record::Message;
 use wire::little_endian::put_u8;
 use wire::little_endian::put_u32;
 use wire::little_endian::u8_at;
 use wire::little_endian::u32_at;
-use message_rules::record::Field;
-use message_rules::record::Message;
 
 pub const LENGTH: usize = 64;
 

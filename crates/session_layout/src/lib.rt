@@ -11,12 +11,12 @@ ghost use lib.ListN.{length};
 ghost use Rattle.wire.specs.Splice.{splice};
 ghost use Rattle.wire.specs.Laid.{laid};
 ghost use Rattle.session_layout.specs.SessionLayout.{stateOf, stateNumber, idAt, sourceAt, sessionBytes, sessionOf};
-use wire::little_endian::put_u8;
-use wire::little_endian::u8_at;
 use message_rules::accessors::SourceId;
 use scan::bytes;
 use session_table::record::Session;
 use session_table::record::State;
+use wire::little_endian::put_u8;
+use wire::little_endian::u8_at;
 
 pub const LENGTH: usize = 19;
 

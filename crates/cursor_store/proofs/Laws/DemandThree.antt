@@ -426,11 +426,11 @@ module _ (w : Whole) (s : State) (o : OpenedAs w s) where
       ↔ ((s .picture .seen ≡ true) × ((i : ℕ) → i < totalOf w → filledAt (s .marks) i ≡ true))
   complete-yes =
       let r = room-says (totalOf w) (length (s .image)) (length (s .marks)) (rw (← o .same-total) (held-says (s .picture) (length (s .image)) (length (s .marks)) (o .clear) (o .opened))) in (
-    λ h.
-        let y = yes-is (s .picture .seen) (allFilled (s .marks) (totalOf w)) (sym completeness-is ∙ h) in
-        (y .0, filled-all (s .marks) (totalOf w) (y .1)),
-    λ h. completeness-is ∙ simp (h .0, all-filled (s .marks) (totalOf w) (r .1) (h .1)),
-  )
+        λ h.
+            let y = yes-is (s .picture .seen) (allFilled (s .marks) (totalOf w)) (sym completeness-is ∙ h) in
+            (y .0, filled-all (s .marks) (totalOf w) (y .1)),
+        λ h. completeness-is ∙ simp (h .0, all-filled (s .marks) (totalOf w) (r .1) (h .1)),
+      )
 
 pub demand-three : DemandThree
 unfolding DemandThree
