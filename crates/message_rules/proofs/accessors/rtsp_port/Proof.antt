@@ -6,12 +6,6 @@ use borrow.Author.Needs.{needs}
 use Rattle.message_rules.proofs.accessors.rtsp_port.Statement.{statement}
 use Rattle.message_rules.proofs.accessors.rtsp_port.Tie as tie
 
-cast-u16-at : tie.Need-cast-u16-at
-cast-u16-at c = search needs
-
-u16-at-requires : tie.Need-u16-at-requires
-u16-at-requires c κs = search needs
-
 returns : tie.Need-returns
 unfolding portOf
 returns c =
@@ -27,4 +21,4 @@ returns-2 c =
     simp absent
 
 pub rtsp-port-spec : {M : Type 1} → statement M
-rtsp-port-spec = tie.close (tie.spec cast-u16-at u16-at-requires returns returns-2)
+rtsp-port-spec = tie.close (tie.spec (λ c. search needs) (λ c κs. search needs) returns returns-2)

@@ -6,12 +6,6 @@ use borrow.Author.Needs.{needs}
 use Rattle.message_rules.proofs.accessors.security_options.Statement.{statement}
 use Rattle.message_rules.proofs.accessors.security_options.Tie as tie
 
-cast-u8-at : tie.Need-cast-u8-at
-cast-u8-at c = search needs
-
-u8-at-requires : tie.Need-u8-at-requires
-u8-at-requires c κs = search needs
-
 returns : tie.Need-returns
 unfolding optionsOf
 returns c =
@@ -27,4 +21,4 @@ returns-2 c =
     simp absent
 
 pub security-options-spec : {M : Type 1} → statement M
-security-options-spec = tie.close (tie.spec cast-u8-at u8-at-requires returns returns-2)
+security-options-spec = tie.close (tie.spec (λ c. search needs) (λ c κs. search needs) returns returns-2)
