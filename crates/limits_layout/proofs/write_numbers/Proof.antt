@@ -15,24 +15,6 @@ returns c =
     let n = length-numbers (a .supported) (a .xor) (a .width) (a .height) (a .port) in
     sym (laid-short (numberBytes (a .supported) (a .xor) (a .width) (a .height) (a .port)) (now (a .«record»)) (omega arith))
 
-put-u8-requires : tie.Need-put-u8-requires
-put-u8-requires c κs = search needs
-
-put-u8-requires-2 : tie.Need-put-u8-requires-2
-put-u8-requires-2 c κs = search needs
-
-put-u16-requires : tie.Need-put-u16-requires
-put-u16-requires c κs = search needs
-
-put-u16-requires-2 : tie.Need-put-u16-requires-2
-put-u16-requires-2 c κs = search needs
-
-put-u16-requires-3 : tie.Need-put-u16-requires-3
-put-u16-requires-3 c κs = search needs
-
-same-length : tie.Need-same-length
-same-length c = search needs
-
 returns-2 : tie.Need-returns-2
 returns-2 c =
     let p = c .before .before in
@@ -50,10 +32,10 @@ write-numbers-spec =
     tie.close
     (tie.spec
     returns
-    put-u8-requires
-    put-u8-requires-2
-    put-u16-requires
-    put-u16-requires-2
-    put-u16-requires-3
-    same-length
+    (λ c κs. search needs)
+    (λ c κs. search needs)
+    (λ c κs. search needs)
+    (λ c κs. search needs)
+    (λ c κs. search needs)
+    (λ c. search needs)
     returns-2)

@@ -15,33 +15,6 @@ returns c =
     let n = length-message (a .message) in
     sym (laid-short (messageBytes (a .message)) (now (a .«record»)) (omega arith))
 
-put-u8-requires : tie.Need-put-u8-requires
-put-u8-requires c κs = search needs
-
-write-field-requires : tie.Need-write-field-requires
-write-field-requires c κs = search needs
-
-write-field-requires-2 : tie.Need-write-field-requires-2
-write-field-requires-2 c κs = search needs
-
-write-field-requires-3 : tie.Need-write-field-requires-3
-write-field-requires-3 c κs = search needs
-
-write-field-requires-4 : tie.Need-write-field-requires-4
-write-field-requires-4 c κs = search needs
-
-write-field-requires-5 : tie.Need-write-field-requires-5
-write-field-requires-5 c κs = search needs
-
-write-field-requires-6 : tie.Need-write-field-requires-6
-write-field-requires-6 c κs = search needs
-
-write-field-requires-7 : tie.Need-write-field-requires-7
-write-field-requires-7 c κs = search needs
-
-same-length : tie.Need-same-length
-same-length c = search needs
-
 returns-2 : tie.Need-returns-2
 returns-2 c =
     let w7 = c .before .before in
@@ -63,13 +36,13 @@ write-spec =
     tie.close
     (tie.spec
     returns
-    put-u8-requires
-    write-field-requires
-    write-field-requires-2
-    write-field-requires-3
-    write-field-requires-4
-    write-field-requires-5
-    write-field-requires-6
-    write-field-requires-7
-    same-length
+    (λ c κs. search needs)
+    (λ c κs. search needs)
+    (λ c κs. search needs)
+    (λ c κs. search needs)
+    (λ c κs. search needs)
+    (λ c κs. search needs)
+    (λ c κs. search needs)
+    (λ c κs. search needs)
+    (λ c. search needs)
     returns-2)

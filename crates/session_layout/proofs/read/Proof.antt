@@ -4,21 +4,6 @@ use borrow.Author.Needs.{needs}
 use Rattle.session_layout.proofs.read.Statement.{statement}
 use Rattle.session_layout.proofs.read.Tie as tie
 
-u8-at-requires : tie.Need-u8-at-requires
-u8-at-requires c κs = search needs
-
-state-of-requires : tie.Need-state-of-requires
-state-of-requires c κs = search needs
-
-u8-at-requires-2 : tie.Need-u8-at-requires-2
-u8-at-requires-2 c κs = search needs
-
-u8-at-requires-3 : tie.Need-u8-at-requires-3
-u8-at-requires-3 c κs = search needs
-
-source-at-requires : tie.Need-source-at-requires
-source-at-requires c κs = search needs
-
 returns : tie.Need-returns
 unfolding sessionOf
 returns c =
@@ -31,9 +16,9 @@ pub read-spec : {M : Type 1} → statement M
 read-spec =
     tie.close
     (tie.spec
-    u8-at-requires
-    state-of-requires
-    u8-at-requires-2
-    u8-at-requires-3
-    source-at-requires
+    (λ c κs. search needs)
+    (λ c κs. search needs)
+    (λ c κs. search needs)
+    (λ c κs. search needs)
+    (λ c κs. search needs)
     returns)
