@@ -1,8 +1,10 @@
 -- Each return gives the refusal of the first check in the list whose condition holds there. Assumes nothing.
 use borrow.Author.Tests.{lt-leb, le-leb, lt-ltb, le-ltb}
-use mathlib.Core.Path.{sym, _∙_}
+use mathlib.Core.Path.{_≡_, sym, _∙_}
+use mathlib.Core.Bool.{cond}
 use native.Mathlib.Omega.{arith}
 use denote.Ref.{now}
+use Rattle.wire.specs.declared.status.Status.the-variants as status
 use Rattle.wire.specs.Checks.{firstOf}
 use Rattle.cursor_fragment.specs.Parsing.{bodyChecks, refusedAs, parsedAs}
 use Rattle.cursor_fragment.proofs.Laws.Fragment.{body-outside, inside-place}
@@ -33,10 +35,13 @@ returns-3 c =
     c .refused3 .ensures
     ∙ simp (← h .before .u16-at .ensures, ← h .header .ensures, le-leb (h .header .result) (h .before .u16-at .result) (i .if1 .left), le-ltb _ _ (k .if2 .left), lt-ltb _ _ (c .before .if3 .taken))
 
-returns-4 : tie.Need-returns-4
-unfolding bodyChecks firstOf parsedAs refusedAs
-returns-4 c =
-    let o = c .before .before in
+-- past those three, 9 is left
+nine-left
+    : (o : tie.After-is-outside)
+    → let a = o .before .before .before .before .before .before .before .before .before .args in
+    firstOf (bodyChecks (a .starts) (now (a .packet))) ≡ cond (o .is-outside .result) status.OutsideImage status.Accepted
+unfolding bodyChecks firstOf
+nine-left o =
     let b = o .before in
     let t = b .before in
     let k = t .before in
@@ -44,8 +49,11 @@ returns-4 c =
     let h = i .before in
     let a = h .before .before .before .args in
     let nine = body-outside (a .starts) (now (a .packet)) (h .before .u16-at .result) (omega arith) in
-    c .refused4 .ensures
-    ∙ simp (← h .before .u16-at .ensures, nine, ← h .header .ensures, le-leb (h .header .result) (h .before .u16-at .result) (i .if1 .left), le-ltb _ _ (k .before .if2 .left), le-ltb _ _ (k .if3 .left), ← t .u32-at .ensures, ← b .offset-bits .ensures, ← o .is-outside .ensures, c .before .if4 .taken)
+    simp (← h .before .u16-at .ensures, nine, ← h .header .ensures, le-leb (h .header .result) (h .before .u16-at .result) (i .if1 .left), le-ltb _ _ (k .before .if2 .left), le-ltb _ _ (k .if3 .left), ← t .u32-at .ensures, ← b .offset-bits .ensures, ← o .is-outside .ensures)
+
+returns-4 : tie.Need-returns-4
+unfolding parsedAs refusedAs
+returns-4 c = c .refused4 .ensures ∙ simp (nine-left (c .before .before), c .before .if4 .taken)
 
 fields-requires : tie.Need-fields-requires
 fields-requires c κs =
@@ -55,36 +63,12 @@ fields-requires c κs =
     (b .before .u32-at .ensures, rw (← b .offset-bits .ensures) (inside-place x (omega arith) _ _ (sym (o .is-outside .ensures) ∙ c .if4 .left)))
 
 returns-5 : tie.Need-returns-5
-unfolding bodyChecks firstOf parsedAs refusedAs
-returns-5 c =
-    let o = c .before .before in
-    let b = o .before in
-    let t = b .before in
-    let k = t .before in
-    let i = k .before .before in
-    let h = i .before in
-    let a = h .before .before .before .args in
-    let nine = body-outside (a .starts) (now (a .packet)) (h .before .u16-at .result) (omega arith) in
-    simp (← h .before .u16-at .ensures, nine, ← h .header .ensures, le-leb (h .header .result) (h .before .u16-at .result) (i .if1 .left), le-ltb _ _ (k .before .if2 .left), le-ltb _ _ (k .if3 .left), ← t .u32-at .ensures, ← b .offset-bits .ensures, ← o .is-outside .ensures, c .before .if4 .left, ← c .fields .ensures)
+unfolding parsedAs
+returns-5 c = simp (nine-left (c .before .before), c .before .if4 .left, ← c .fields .ensures)
 
 pub parse-body-spec : {M : Type 1} → statement M
 parse-body-spec =
     tie.close
-    (tie.spec
-    (λ c κs. search needs)
-    (λ c. search needs)
-    (λ c κs. search needs)
-    (λ c κs. search needs)
-    returns
-    (λ c. search needs)
-    (λ c κs. search needs)
-    returns-2
-    (λ c κs. search needs)
-    returns-3
-    (λ c κs. search needs)
-    (λ c κs. search needs)
-    (λ c κs. search needs)
-    (λ c κs. search needs)
-    returns-4
-    fields-requires
-    returns-5)
+    (tie.spec (λ c κs. search needs) (λ c. search needs) (λ c κs. search needs) (λ c κs. search needs) returns (λ c. search needs)
+    (λ c κs. search needs) returns-2 (λ c κs. search needs) returns-3 (λ c κs. search needs) (λ c κs. search needs) (λ c κs. search needs)
+    (λ c κs. search needs) returns-4 fields-requires returns-5)
