@@ -15,46 +15,6 @@ arm
     → r ≡ follow n s event source options
 arm m s event source options e p = p ∙ sym (ap (λ (k : Next). follow k s event source options) e)
 
-returns : tie.Need-returns
-returns c =
-    let a = c .before .before .before .args in
-    arm _ (a .session) (a .event) (a .source) (a .options) (c .before .enum-told .given .1) (c .refuse .ensures)
-
-returns-2 : tie.Need-returns-2
-returns-2 c =
-    let a = c .before .before .before .before .args in
-    arm _ (a .session) (a .event) (a .source) (a .options) (c .before .before .enum-told2 .given .1) (c .refuse2 .ensures ∙ rw (c .before .close .ensures))
-
-returns-3 : tie.Need-returns-3
-returns-3 c =
-    let a = c .before .before .before .args in
-    arm _ (a .session) (a .event) (a .source) (a .options) (c .before .enum-told3 .given .1) (c .accept .ensures)
-
-returns-4 : tie.Need-returns-4
-returns-4 c =
-    let a = c .before .before .before .before .args in
-    arm _ (a .session) (a .event) (a .source) (a .options) (c .before .before .enum-told4 .given .1) (c .accept2 .ensures ∙ rw (c .before .pin-or-ready .ensures))
-
-returns-5 : tie.Need-returns-5
-returns-5 c =
-    let a = c .before .before .before .args in
-    arm _ (a .session) (a .event) (a .source) (a .options) (c .before .enum-told5 .given .1) (c .accept3 .ensures)
-
-returns-6 : tie.Need-returns-6
-returns-6 c =
-    let a = c .before .before .before .args in
-    arm _ (a .session) (a .event) (a .source) (a .options) (c .before .enum-told6 .given .1) (c .accept4 .ensures)
-
-returns-7 : tie.Need-returns-7
-returns-7 c =
-    let a = c .before .before .before .args in
-    arm _ (a .session) (a .event) (a .source) (a .options) (c .before .enum-told7 .given .1) (c .accept5 .ensures)
-
-returns-8 : tie.Need-returns-8
-returns-8 c =
-    let a = c .before .before .before .args in
-    arm _ (a .session) (a .event) (a .source) (a .options) (c .before .enum-told8 .given .1) (c .accept6 .ensures)
-
 pub follow-spec : {M : Type 1} → statement M
 follow-spec =
     tie.close
@@ -77,11 +37,11 @@ follow-spec =
     (λ c κs. search needs)
     (λ c. search needs)
     (λ c κs. search needs)
-    returns
-    returns-2
-    returns-3
-    returns-4
-    returns-5
-    returns-6
-    returns-7
-    returns-8)
+    (λ c. arm _ _ _ _ _ (c .before .enum-told .given .1) (c .refuse .ensures))
+    (λ c. arm _ _ _ _ _ (c .before .before .enum-told2 .given .1) (c .refuse2 .ensures ∙ rw (c .before .close .ensures)))
+    (λ c. arm _ _ _ _ _ (c .before .enum-told3 .given .1) (c .accept .ensures))
+    (λ c. arm _ _ _ _ _ (c .before .before .enum-told4 .given .1) (c .accept2 .ensures ∙ rw (c .before .pin-or-ready .ensures)))
+    (λ c. arm _ _ _ _ _ (c .before .enum-told5 .given .1) (c .accept3 .ensures))
+    (λ c. arm _ _ _ _ _ (c .before .enum-told6 .given .1) (c .accept4 .ensures))
+    (λ c. arm _ _ _ _ _ (c .before .enum-told7 .given .1) (c .accept5 .ensures))
+    (λ c. arm _ _ _ _ _ (c .before .enum-told8 .given .1) (c .accept6 .ensures)))
