@@ -7,36 +7,12 @@ use borrow.Author.Needs.{needs}
 use Rattle.session_calls.proofs.on_event.Statement.{statement}
 use Rattle.session_calls.proofs.on_event.Tie as tie
 
-lent-enough-requires : tie.Need-lent-enough-requires
-lent-enough-requires c κs = search needs
-
-short-requires : tie.Need-short-requires
-short-requires c κs = search needs
-
 returns : tie.Need-returns
 returns c =
     let t = c .before .before in
     let a = t .before .before .before .args in
     rw (c .short .ensures)
     (sym (step-short (now (a .«record»)) (a .event) (now (a .source)) (a .options) (sym (t .lent-enough .ensures) ∙ not-true _ (c .before .if1 .taken))))
-
-read-requires : tie.Need-read-requires
-read-requires c κs = search needs
-
-source-of-requires : tie.Need-source-of-requires
-source-of-requires c κs = search needs
-
-step-requires : tie.Need-step-requires
-step-requires c κs = search needs
-
-number-of-requires : tie.Need-number-of-requires
-number-of-requires c κs = search needs
-
-leave-requires : tie.Need-leave-requires
-leave-requires c κs = search needs
-
-same-length : tie.Need-same-length
-same-length c = search needs
 
 returns-2 : tie.Need-returns-2
 returns-2 c =
@@ -55,13 +31,13 @@ pub on-event-spec : {M : Type 1} → statement M
 on-event-spec =
     tie.close
     (tie.spec
-    lent-enough-requires
-    short-requires
+    (λ c κs. search needs)
+    (λ c κs. search needs)
     returns
-    read-requires
-    source-of-requires
-    step-requires
-    number-of-requires
-    leave-requires
-    same-length
+    (λ c κs. search needs)
+    (λ c κs. search needs)
+    (λ c κs. search needs)
+    (λ c κs. search needs)
+    (λ c κs. search needs)
+    (λ c. search needs)
     returns-2)
