@@ -8,6 +8,15 @@ use Rattle.cursor_limits.specs.Reading.{readField, readLimits}
 use Rattle.cursor_limits.proofs.reading.read_limits.Statement.{statement}
 use Rattle.cursor_limits.proofs.reading.read_limits.Tie as tie
 
+-- the width and the height that were read
+width-is : (c : tie.After-width) → readField (part 4 5 (now (c .before .before .before .before .before .args .bytes))) ≡ digits.Number (c .width .given .0 .0)
+width-is c = sym (c .before .before .read-field .ensures) ∙ c .width .given .1
+
+height-is
+    : (c : tie.After-height)
+    → readField (part 9 5 (now (c .before .before .before .before .before .before .before .before .before .before .args .bytes))) ≡ digits.Number (c .height .given .0 .0)
+height-is c = sym (c .before .before .read-field2 .ensures) ∙ c .height .given .1
+
 returns : tie.Need-returns
 unfolding readLimits
 returns c =
@@ -21,13 +30,7 @@ unfolding readLimits
 returns-2 c =
     let t = c .before in
     let w = t .before .before .before .before .before in
-    simp (
-      c .not-grammar2 .ensures,
-      ← w .before .before .read-field .ensures,
-      w .width .given .1,
-      ← t .before .before .read-field2 .ensures,
-      t .enum-told2 .given .1,
-    )
+    simp (c .not-grammar2 .ensures, width-is w, ← t .before .before .read-field2 .ensures, t .enum-told2 .given .1)
 
 returns-3 : tie.Need-returns-3
 unfolding readLimits
@@ -35,15 +38,7 @@ returns-3 c =
     let t = c .before in
     let h = t .before .before .before .before .before in
     let w = h .before .before .before .before .before in
-    simp (
-      c .not-grammar3 .ensures,
-      ← w .before .before .read-field .ensures,
-      w .width .given .1,
-      ← h .before .before .read-field2 .ensures,
-      h .height .given .1,
-      ← t .before .before .read-field3 .ensures,
-      t .enum-told3 .given .1,
-    )
+    simp (c .not-grammar3 .ensures, width-is w, height-is h, ← t .before .before .read-field3 .ensures, t .enum-told3 .given .1)
 
 returns-4 : tie.Need-returns-4
 unfolding readLimits
@@ -51,14 +46,7 @@ returns-4 c =
     let p = c .before in
     let h = p .before .before .before .before .before in
     let w = h .before .before .before .before .before in
-    simp (
-      ← w .before .before .read-field .ensures,
-      w .width .given .1,
-      ← h .before .before .read-field2 .ensures,
-      h .height .given .1,
-      ← p .before .before .read-field3 .ensures,
-      p .port .given .1,
-    )
+    simp (width-is w, height-is h, ← p .before .before .read-field3 .ensures, p .port .given .1)
 
 pub read-limits-spec : {M : Type 1} → statement M
 read-limits-spec =
