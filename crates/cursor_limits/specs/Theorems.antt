@@ -8,7 +8,7 @@ use Rattle.cursor_limits.specs.declared.value.Limits.{Limits}
 use Rattle.cursor_limits.specs.declared.value.Value.{Value}
 use Rattle.cursor_limits.specs.declared.value.Value.the-variants as value
 use Rattle.cursor_limits.specs.declared.value.Answer.the-variants as answer
-use Rattle.cursor_limits.specs.declared.value.Written.the-variants as written
+use Rattle.wire.specs.declared.written.Written.the-variants as written
 use Rattle.cursor_limits.specs.Grammar.{Means}
 use Rattle.wire.specs.Laid.{laid}
 use Rattle.text.specs.Word.{lowered, raised}
@@ -46,7 +46,7 @@ TenIfShort =
 -- What is written for a record reads back as the same record.
 unfoldable pub ReadsBack : Type 0
 ReadsBack =
-    (v : Value) (out : List ℕ) (n : ℕ) → Sized v → writeAnswer v (length out) ≡ written.Accepted n
+    (v : Value) (out : List ℕ) (n : ℕ) → Sized v → writeAnswer v (length out) ≡ written.Wrote n
     → readValue (take n (laid (spelling v) out)) ≡ answer.Accepted v
 
 -- s with its word in small letters and its digits in capitals

@@ -12,8 +12,8 @@ use Rattle.cursor_limits.specs.declared.value.Xor.the-variants as xor
 use Rattle.cursor_limits.specs.declared.value.Limits.{Limits}
 use Rattle.cursor_limits.specs.declared.value.Value.{Value}
 use Rattle.cursor_limits.specs.declared.value.Value.the-variants as value
-use Rattle.cursor_limits.specs.declared.value.Written.{Written}
-use Rattle.cursor_limits.specs.declared.value.Written.the-variants as answer
+use Rattle.wire.specs.declared.written.Written.{Written}
+use Rattle.wire.specs.declared.written.Written.the-variants as answer
 use Rattle.text.specs.Abnf.{space}
 use Rattle.cursor_limits.specs.Grammar.{noneWord, fullWord}
 use Rattle.text.specs.Hex.{spellDigits}
@@ -37,13 +37,13 @@ spelling (value.Supported l) = spellLimits l
 
 -- the paper's number of a writer's answer, and the place of a refusal
 abbrev pub writtenNumber : Written → ℕ
-writtenNumber (answer.Accepted n) = 0
+writtenNumber (answer.Wrote n) = 0
 writtenNumber (answer.Refused status place) = numberOf status
 
 abbrev pub writtenPlace : Written → ℕ
-writtenPlace (answer.Accepted n) = 0
+writtenPlace (answer.Wrote n) = 0
 writtenPlace (answer.Refused status place) = place
 
 -- the number of its bytes, or 10 where the output has fewer
 unfoldable pub writeAnswer : Value → ℕ → Written
-writeAnswer v room = cond (leb (length (spelling v)) room) (answer.Accepted (length (spelling v))) (answer.Refused status.NoRoom 0)
+writeAnswer v room = cond (leb (length (spelling v)) room) (answer.Wrote (length (spelling v))) (answer.Refused status.NoRoom 0)

@@ -26,9 +26,3 @@ pub enum Answer {
     Accepted(Value),
     Refused { status: Status, place: usize },
 }
-
-// What writing gives: the number of bytes written, or a refusal, whose place is always 0.
-pub enum Written {
-    Accepted(usize),
-    Refused { status: Status, place: usize },
-}

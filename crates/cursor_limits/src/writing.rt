@@ -7,11 +7,11 @@ ghost use Rattle.wire.specs.Laid.{laid};
 ghost use Rattle.cursor_limits.specs.Writing.{spellXor, spellField, spellLimits, spelling, writeAnswer};
 use crate::value::Limits;
 use crate::value::Value;
-use crate::value::Written;
 use crate::value::Xor;
 use text::hex;
 use text::word;
 use wire::status::Status;
+use wire::written::Written;
 
 // The word for the xor support.
 fn word_of(xor: Xor) -> [u8; 4]
@@ -65,7 +65,7 @@ pub fn write(value: Value, out: &mut [u8]) -> Written
                 };
             }
             word::copy(out, b"none");
-            Written::Accepted(4)
+            Written::Wrote(4)
         }
         Value::Supported(limits) => {
             if out.len() < 19 {
@@ -75,7 +75,7 @@ pub fn write(value: Value, out: &mut [u8]) -> Written
                 };
             }
             write_limits(out, limits);
-            Written::Accepted(19)
+            Written::Wrote(19)
         }
     }
 }

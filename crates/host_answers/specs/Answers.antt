@@ -3,6 +3,8 @@ use Prim.Native.Nat.{ℕ}
 use mathlib.Core.Bool.{false}
 use Rattle.wire.specs.declared.status.Status.{Status}
 use Rattle.wire.specs.declared.status.Status.the-variants as status
+use Rattle.wire.specs.declared.written.Written.{Written as WriterAnswer}
+use Rattle.wire.specs.declared.written.Written.the-variants as writer
 use Rattle.wire.specs.Status.{numberOf}
 use Rattle.host_answers.specs.declared.Answer.{Answer}
 use Rattle.host_answers.specs.declared.Written.{Written}
@@ -25,6 +27,10 @@ wrote n = record { status = 0; size = n }
 
 abbrev pub notWritten : Status → Written
 notWritten s = record { status = numberOf s; size = 0 }
+
+abbrev pub writtenOf : WriterAnswer → Written
+writtenOf (writer.Wrote n) = wrote n
+writtenOf (writer.Refused s place) = notWritten s
 
 -- of a question that is refused: no
 abbrev pub notAnswered : Status → Yes

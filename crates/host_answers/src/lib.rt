@@ -2,11 +2,12 @@
 ghost use mathlib.Core.Path.{_≡_};
 ghost use lib.ListN.{length, replicate};
 ghost use Rattle.wire.specs.Laid.{laid};
-ghost use Rattle.host_answers.specs.Answers.{accepted, refused, notWritten, notAnswered};
+ghost use Rattle.host_answers.specs.Answers.{accepted, refused, notWritten, writtenOf, notAnswered};
 ghost use Rattle.host_answers.specs.Fresh.{freshAnswer};
 use scan::bytes;
 use wire::status;
 use wire::status::Status;
+use wire::written;
 
 // Of a reader and of the calls for cursor packets: the place of a refusal.
 #[repr(C)]
@@ -69,6 +70,16 @@ pub fn not_written(status: Status) -> Written
     Written {
         status: status::number(status),
         size: 0,
+    }
+}
+
+// What a writer answers, by numbers.
+pub fn of_writer(answer: written::Written) -> Written
+    ensures { λ r. ⌜ r ≡ writtenOf answer ⌝ }
+{
+    match answer {
+        written::Written::Wrote(size) => Written { status: 0, size },
+        written::Written::Refused { status, place } => not_written(status),
     }
 }
 

@@ -8,15 +8,13 @@ use lib.ListN.{length}
 use Rattle.wire.specs.declared.status.Status.the-variants as status
 use Rattle.cursor_limits.specs.declared.value.Answer.{Answer as ReaderAnswer}
 use Rattle.cursor_limits.specs.declared.value.Answer.the-variants as reader
-use Rattle.cursor_limits.specs.declared.value.Written.{Written as WriterAnswer}
-use Rattle.cursor_limits.specs.declared.value.Written.the-variants as writer
 use Rattle.cursor_limits.specs.Reading.{readValue}
 use Rattle.wire.specs.Laid.{laid}
 use Rattle.cursor_limits.specs.Writing.{spelling, writeAnswer}
 use Rattle.limits_layout.specs.LimitsLayout.{limitsBytes, limitsIn}
 use Rattle.host_answers.specs.declared.Answer.{Answer}
 use Rattle.host_answers.specs.declared.Written.{Written}
-use Rattle.host_answers.specs.Answers.{accepted, refused, short, wrote, notWritten}
+use Rattle.host_answers.specs.Answers.{accepted, refused, short, notWritten, writtenOf}
 
 -- ---- Reading
 
@@ -37,10 +35,6 @@ unfoldable pub readRecord : List ℕ → List ℕ → List ℕ
 readRecord s xs = recordOf (readValue s) xs
 
 -- ---- Writing
-
-abbrev pub writtenOf : WriterAnswer → Written
-writtenOf (writer.Accepted n) = wrote n
-writtenOf (writer.Refused st place) = notWritten st
 
 -- 10 where the record is short, else what the writer answers for the record
 unfoldable pub limitsWritten : List ℕ → List ℕ → Written

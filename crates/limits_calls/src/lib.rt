@@ -6,6 +6,7 @@ use host_answers::Answer;
 use host_answers::Written;
 use host_answers::accept;
 use host_answers::not_written;
+use host_answers::of_writer;
 use host_answers::refuse;
 use wire::status::Status;
 
@@ -34,8 +35,5 @@ pub fn write(record: &[u8], out: &mut [u8]) -> Written
     if record.len() < limits_layout::LENGTH {
         return not_written(Status::NoRoom);
     }
-    match cursor_limits::write(limits_layout::read(record), out) {
-        value::Written::Accepted(size) => Written { status: 0, size },
-        value::Written::Refused { status, place } => not_written(status),
-    }
+    of_writer(cursor_limits::write(limits_layout::read(record), out))
 }

@@ -10,8 +10,6 @@ use Rattle.wire.specs.Status.{numberOf}
 use Rattle.scan.specs.Bytes.{copied}
 use Rattle.message_reader.specs.declared.Answer.{Answer as ReaderAnswer}
 use Rattle.message_reader.specs.declared.Answer.the-variants as reader
-use Rattle.message_writer.specs.declared.Written.{Written as WriterAnswer}
-use Rattle.message_writer.specs.declared.Written.the-variants as writer
 use Rattle.message_rules.specs.declared.accessors.SourceId.{SourceId}
 use Rattle.message_reader.specs.Reading.{readMessage}
 use Rattle.message_writer.specs.Writing.{writeAnswer, output}
@@ -22,7 +20,7 @@ use Rattle.host_answers.specs.declared.Answer.{Answer}
 use Rattle.host_answers.specs.declared.Number.{Number}
 use Rattle.host_answers.specs.declared.Written.{Written}
 use Rattle.host_answers.specs.declared.Yes.{Yes}
-use Rattle.host_answers.specs.Answers.{accepted, refused, short, wrote, notWritten, notAnswered}
+use Rattle.host_answers.specs.Answers.{accepted, refused, short, notWritten, writtenOf, notAnswered}
 
 -- ---- Reading
 
@@ -43,10 +41,6 @@ unfoldable pub readRecord : List ℕ → List ℕ → List ℕ
 readRecord s xs = recordOf (readMessage s) xs
 
 -- ---- Writing
-
-abbrev pub writtenOf : WriterAnswer → Written
-writtenOf (writer.Wrote n) = wrote n
-writtenOf (writer.Refused st place) = notWritten st
 
 -- 10 where the record is short, else what the writer answers for the record
 unfoldable pub messageWritten : List ℕ → List ℕ → List ℕ → Written

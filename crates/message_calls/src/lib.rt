@@ -9,6 +9,7 @@ use host_answers::Yes;
 use host_answers::accept;
 use host_answers::not_answered;
 use host_answers::not_written;
+use host_answers::of_writer;
 use host_answers::refuse;
 use message_reader::walk;
 use message_rules::accessors;
@@ -46,10 +47,7 @@ pub fn write(bytes: &[u8], record: &[u8], out: &mut [u8]) -> Written
     if record.len() < message_layout::LENGTH {
         return not_written(Status::NoRoom);
     }
-    match message_writer::write(bytes, message_layout::read(record), out) {
-        message_writer::Written::Wrote(size) => Written { status: 0, size },
-        message_writer::Written::Refused { status, place } => not_written(status),
-    }
+    of_writer(message_writer::write(bytes, message_layout::read(record), out))
 }
 
 // The answer with a number of a record, or 10 where its lent bytes are fewer than its layout's.

@@ -14,7 +14,7 @@ use Rattle.message_rules.specs.Rules.{roleOf, foreign, needed, lengthOk, knownC
 use Rattle.message_rules.specs.Record.{fieldOf, valueOf, sizeTo}
 use Rattle.message_reader.specs.Reading.{readMessage}
 use Rattle.message_reader.specs.Theorems.{Bytes}
-use Rattle.message_writer.specs.declared.Written.the-variants as written
+use Rattle.wire.specs.declared.written.Written.the-variants as written
 use Rattle.message_writer.specs.Writing.{writeAnswer, output}
 
 -- ---- The writer's numbers, exactly under their conditions

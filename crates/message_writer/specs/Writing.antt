@@ -8,8 +8,8 @@ use Rattle.wire.specs.Number.{bytes}
 use Rattle.wire.specs.declared.status.Status.the-variants as status
 use Rattle.message_rules.specs.declared.record.Field.{Field}
 use Rattle.message_rules.specs.declared.record.Message.{Message}
-use Rattle.message_writer.specs.declared.Written.{Written}
-use Rattle.message_writer.specs.declared.Written.the-variants as written
+use Rattle.wire.specs.declared.written.Written.{Written}
+use Rattle.wire.specs.declared.written.Written.the-variants as written
 use Rattle.message_rules.specs.Rules.{roleOf, foreign, needed, lengthOk, knownCommand}
 use Rattle.wire.specs.Below.{allBelow}
 use Rattle.message_rules.specs.Record.{fieldOf, valueOf, sizeTo}

@@ -15,12 +15,7 @@ use scan::bytes;
 use wire::number::put_u8;
 use wire::number::put_u16;
 use wire::status::Status;
-
-// What writing gives: the number of bytes written, or the refusal, whose place is 0.
-pub enum Written {
-    Wrote(usize),
-    Refused { status: Status, place: usize },
-}
+use wire::written::Written;
 
 // Whether the record's field of this type can be written from n lent bytes.
 fn field_ok(n: usize, message: Message, kind: u8) -> bool

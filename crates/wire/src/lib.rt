@@ -5,3 +5,4 @@ mod order;
 pub mod sequence;
 pub mod signed;
 pub mod status;
+pub mod written;

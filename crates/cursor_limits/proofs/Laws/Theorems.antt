@@ -21,7 +21,7 @@ use Rattle.cursor_limits.specs.declared.value.Value.{Value}
 use Rattle.cursor_limits.specs.declared.value.Value.the-variants as value
 use Rattle.cursor_limits.specs.declared.value.Answer.{Answer}
 use Rattle.cursor_limits.specs.declared.value.Answer.the-variants as answer
-use Rattle.cursor_limits.specs.declared.value.Written.the-variants as written
+use Rattle.wire.specs.declared.written.Written.the-variants as written
 use Rattle.text.specs.Abnf.{space, HexDigs}
 use Rattle.cursor_limits.specs.Grammar.{noneWord, fullWord, XorSupport, xor-none, xor-full, SinkCursorCaps, caps, Means, not-supported, supported}
 use Rattle.wire.specs.Below.{allBelow}
@@ -241,14 +241,14 @@ spelling-means (limits-sized {l} w h p) =
 
 -- a writer that answers n has laid down a spelling of n bytes
 spelled-out
-    : (v : Value) (out : List ℕ) (n : ℕ) → writeAnswer v (length out) ≡ written.Accepted n
+    : (v : Value) (out : List ℕ) (n : ℕ) → writeAnswer v (length out) ≡ written.Wrote n
     → take n (laid (spelling v) out) ≡ spelling v
 unfolding writeAnswer
 spelled-out v out n e = go (leb (length (spelling v)) (length out)) refl e
   where
     go
         : (b : Bool) → leb (length (spelling v)) (length out) ≡ b
-        → cond b (written.Accepted (length (spelling v))) (written.Refused status.NoRoom 0) ≡ written.Accepted n
+        → cond b (written.Wrote (length (spelling v))) (written.Refused status.NoRoom 0) ≡ written.Wrote n
         → take n (laid (spelling v) out) ≡ spelling v
     go true h f =
         let size : length (spelling v) ≡ n = cc in

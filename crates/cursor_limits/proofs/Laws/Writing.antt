@@ -20,7 +20,7 @@ use Rattle.cursor_limits.specs.declared.value.Xor.{Xor}
 use Rattle.cursor_limits.specs.declared.value.Xor.the-variants as xor
 use Rattle.cursor_limits.specs.declared.value.Limits.{Limits}
 use Rattle.cursor_limits.specs.declared.value.Value.{Value}
-use Rattle.cursor_limits.specs.declared.value.Written.the-variants as answer
+use Rattle.wire.specs.declared.written.Written.the-variants as answer
 use Rattle.cursor_limits.specs.Writing.{spellXor, spellField, spellLimits, spelling, writeAnswer}
 
 pub length-xor : (x : Xor) → length (spellXor x) ≡ 4
@@ -121,6 +121,6 @@ module _ (v : Value) (n : ℕ) (out : List ℕ) (size : length (spelling v) ≡ 
 
   pub accepted
       : (after : List ℕ) → n ≤ length out → after ≡ laid (spelling v) out
-      → (answer.Accepted n ≡ writeAnswer v (length out)) × (after ≡ laid (spelling v) out)
+      → (answer.Wrote n ≡ writeAnswer v (length out)) × (after ≡ laid (spelling v) out)
   unfolding writeAnswer
   accepted after h e = (simp (size, le-leb n (length out) h), e)

@@ -17,8 +17,8 @@ use Rattle.wire.specs.declared.status.Status.{Status}
 use Rattle.message_rules.specs.declared.record.Field.{Field}
 use Rattle.message_rules.specs.declared.record.Message.{Message}
 use Rattle.message_reader.specs.declared.Answer.the-variants as answer
-use Rattle.message_writer.specs.declared.Written.{Written}
-use Rattle.message_writer.specs.declared.Written.the-variants as written
+use Rattle.wire.specs.declared.written.Written.{Written}
+use Rattle.wire.specs.declared.written.Written.the-variants as written
 use Rattle.message_rules.specs.Rules.{roleOf, needed}
 use Rattle.message_rules.specs.Record.{absent, fieldOf, valueOf, withField, emptyOf, sizeTo}
 use Rattle.message_reader.specs.Reading.{commandIn, typeAt, lengthAt, nextAt, valueAt, readMessage}

@@ -15,7 +15,7 @@ use Rattle.wire.proofs.Laws.Number.{writes-back, number-small}
 use Rattle.message_rules.specs.declared.record.Field.{Field}
 use Rattle.message_rules.specs.declared.record.Message.{Message}
 use Rattle.message_reader.specs.declared.Answer.the-variants as answer
-use Rattle.message_writer.specs.declared.Written.the-variants as written
+use Rattle.wire.specs.declared.written.Written.the-variants as written
 use Rattle.message_rules.specs.Rules.{roleOf, foreign, needed}
 use Rattle.message_rules.specs.Record.{fieldOf, withField, sizeTo}
 use Rattle.message_reader.specs.Reading.{commandIn, typeAt, lengthAt, nextAt, valueAt, readMessage}

@@ -18,7 +18,7 @@ use Rattle.wire.proofs.Laws.Splice.{length-splice}
 use Rattle.wire.proofs.Laws.Written.{Written, next-part}
 use Rattle.message_rules.specs.declared.record.Field.{Field}
 use Rattle.message_rules.specs.declared.record.Message.{Message}
-use Rattle.message_writer.specs.declared.Written.the-variants as answer
+use Rattle.wire.specs.declared.written.Written.the-variants as answer
 use Rattle.message_rules.specs.Rules.{roleOf, foreign, needed, lengthOk, knownCommand}
 use Rattle.wire.specs.Below.{allBelow}
 use Rattle.message_rules.specs.Record.{fieldOf, valueOf, tlvSize, sizeTo}

@@ -10,7 +10,7 @@ use lib.Dec.{leb, eqb}
 use lib.ListN.{length, drop, length-append, length-drop}
 use lib.Seq.{drop-at}
 use Rattle.message_rules.specs.declared.record.Message.{Message}
-use Rattle.message_writer.specs.declared.Written.{Written}
+use Rattle.wire.specs.declared.written.Written.{Written}
 use Rattle.message_rules.specs.Rules.{roleOf, foreign, needed, lengthOk, knownCommand}
 use Rattle.wire.specs.Below.{allBelow}
 use Rattle.message_rules.specs.Record.{fieldOf, sizeTo}

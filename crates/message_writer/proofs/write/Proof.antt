@@ -1,5 +1,5 @@
 -- Each test of the code is one of the definition's; what is accepted is laid, the header first. Assumes nothing.
-use Rattle.message_writer.specs.declared.Written.the-variants as answer
+use Rattle.wire.specs.declared.written.Written.the-variants as answer
 use Prim.Native.Nat.{_≤_}
 use mathlib.Core.Path.{_≡_, ap, _∙_}
 use mathlib.Core.Bool.{true}
