@@ -8,7 +8,7 @@ use Rattle.cursor_fragment.specs.declared.start.Start.{Start}
 use Rattle.cursor_picture.specs.declared.Picture.{Picture}
 use Rattle.wire.specs.Laid.{laid}
 use Rattle.wire.specs.Layout.{flag, isSet}
-use Rattle.wire.specs.LittleEndian.{number, bytes}
+use Rattle.wire.specs.LittleEndian.{numberAt, bytes}
 
 -- its length in bytes
 abbrev pub pictureLength : ℕ
@@ -27,12 +27,12 @@ pictureBytes q =
 unfoldable pub pictureOf : List ℕ → Picture
 pictureOf xs =
     record {
-      opened = isSet (number 1 xs 0);
-      id = number 2 xs 1;
-      total = number 4 xs 3;
-      opening = number 2 xs 7;
-      seen = isSet (number 1 xs 9);
-      start = record { «image_type» = number 1 xs 10; «hot_x» = number 2 xs 11; «hot_y» = number 2 xs 13 };
+      opened = isSet (numberAt 1 xs 0);
+      id = numberAt 2 xs 1;
+      total = numberAt 4 xs 3;
+      opening = numberAt 2 xs 7;
+      seen = isSet (numberAt 1 xs 9);
+      start = record { «image_type» = numberAt 1 xs 10; «hot_x» = numberAt 2 xs 11; «hot_y» = numberAt 2 xs 13 };
     }
 
 -- the numbers are no larger than their bytes hold

@@ -8,7 +8,7 @@ use Rattle.wire.specs.Signed.{signed, unsigned}
 use Rattle.cursor_pointer.specs.declared.Pointer.{Pointer}
 use Rattle.wire.specs.Laid.{laid}
 use Rattle.wire.specs.Layout.{flag, isSet}
-use Rattle.wire.specs.LittleEndian.{number, bytes}
+use Rattle.wire.specs.LittleEndian.{numberAt, bytes}
 
 -- its length in bytes
 abbrev pub pointerLength : ℕ
@@ -22,10 +22,10 @@ pointerBytes p = bytes 1 (flag (p .known)) ++ bytes 2 (p .sequence) ++ bytes 2 (
 unfoldable pub pointerOf : List ℕ → Pointer
 pointerOf xs =
     record {
-      known = isSet (number 1 xs 0);
-      sequence = number 2 xs 1;
-      x = signed 2 (number 2 xs 3);
-      y = signed 2 (number 2 xs 5);
+      known = isSet (numberAt 1 xs 0);
+      sequence = numberAt 2 xs 1;
+      x = signed 2 (numberAt 2 xs 3);
+      y = signed 2 (numberAt 2 xs 5);
     }
 
 -- What is written reads back, where the sequence number is one of 16 bits, and x and y are from −32,768 to 32,767 (`mag z` is n both for

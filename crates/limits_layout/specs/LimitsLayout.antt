@@ -10,7 +10,7 @@ use Rattle.cursor_limits.specs.declared.value.Xor.the-variants as xor
 use Rattle.cursor_limits.specs.declared.value.Value.{Value}
 use Rattle.cursor_limits.specs.declared.value.Value.the-variants as value
 use Rattle.wire.specs.Laid.{laid}
-use Rattle.wire.specs.LittleEndian.{number, bytes}
+use Rattle.wire.specs.LittleEndian.{numberAt, bytes}
 
 -- the XOR operation: 0 for no, any other byte for yes, written as 1
 abbrev pub xorByte : Xor → ℕ
@@ -30,8 +30,8 @@ limitsBytes (value.Supported l) = numberBytes 1 (xorByte (l .xor)) (l .width) (l
 
 unfoldable pub limitsIn : List ℕ → Value
 limitsIn xs =
-    cond (eqb (number 1 xs 0) 0) value.NotSupported
-    (value.Supported (record { xor = xorOf (number 1 xs 1); width = number 2 xs 2; height = number 2 xs 4; port = number 2 xs 6 }))
+    cond (eqb (numberAt 1 xs 0) 0) value.NotSupported
+    (value.Supported (record { xor = xorOf (numberAt 1 xs 1); width = numberAt 2 xs 2; height = numberAt 2 xs 4; port = numberAt 2 xs 6 }))
 
 -- What is written reads back, where each number is below 65,536. The proof stands in proofs/Laws/LimitsLayout.antt.
 abbrev pub Fits : Value → Type 0

@@ -11,14 +11,14 @@ use Rattle.message_reader.specs.Reading.{readMessage}
 use Rattle.message_reader.specs.Theorems.{Bytes}
 use Rattle.wire.specs.Laid.{laid}
 use Rattle.wire.specs.Layout.{flag, isSet}
-use Rattle.wire.specs.LittleEndian.{number, bytes}
+use Rattle.wire.specs.LittleEndian.{numberAt, bytes}
 
 -- a field: whether it is there, the place and the length of its value
 unfoldable pub fieldBytes : Field → List ℕ
 fieldBytes f = bytes 1 (flag (f .present)) ++ bytes 4 (f .at) ++ bytes 4 (f .len)
 
 unfoldable pub fieldIn : List ℕ → ℕ → Field
-fieldIn xs at = record { present = isSet (number 1 xs at); at = number 4 xs (at + 1); len = number 4 xs (at + 5) }
+fieldIn xs at = record { present = isSet (numberAt 1 xs at); at = numberAt 4 xs (at + 1); len = numberAt 4 xs (at + 5) }
 
 -- the command, and the fields by rising type
 unfoldable pub messageBytes : Message → List ℕ
@@ -35,7 +35,7 @@ messageBytes m =
 unfoldable pub messageIn : List ℕ → Message
 messageIn xs =
     record {
-      command = number 1 xs 0;
+      command = numberAt 1 xs 0;
       «friendly_name» = fieldIn xs 1;
       «rtsp_port» = fieldIn xs 10;
       «source_id» = fieldIn xs 19;

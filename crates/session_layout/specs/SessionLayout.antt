@@ -11,7 +11,7 @@ use Rattle.session_table.specs.declared.record.State.the-variants as state
 use Rattle.session_table.specs.declared.record.Session.{Session}
 use Rattle.wire.specs.Laid.{laid}
 use Rattle.wire.specs.Layout.{flag, isSet}
-use Rattle.wire.specs.LittleEndian.{number, bytes}
+use Rattle.wire.specs.LittleEndian.{numberAt, bytes}
 
 -- the numbers of the states, from 0 on; any greater number is Closed
 unfoldable pub stateOf : ℕ → State
@@ -41,9 +41,9 @@ sessionBytes s = bytes 1 (stateNumber (s .state)) ++ bytes 1 (s .options) ++ byt
 unfoldable pub sessionOf : List ℕ → Session
 sessionOf xs =
     record {
-      state = stateOf (number 1 xs 0);
-      options = number 1 xs 1;
-      source = sourceAt (isSet (number 1 xs 2)) 3 xs;
+      state = stateOf (numberAt 1 xs 0);
+      options = numberAt 1 xs 1;
+      source = sourceAt (isSet (numberAt 1 xs 2)) 3 xs;
     }
 
 -- What is written reads back, where the options are one byte and the Source ID has its 16. The proof stands in

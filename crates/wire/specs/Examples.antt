@@ -50,12 +50,13 @@ pub little-total : little.bytes 4 0x00040000 ≡ 0x00 ∷ 0x00 ∷ 0x04 ∷ 0x00
 unfolding bytesIn
 little-total = refl
 
-pub little-port : little.number 2 (9 ∷ 0x44 ∷ 0x1c ∷ []) 1 ≡ 7236
-unfolding numberIn
+pub little-port : little.numberAt 2 (9 ∷ 0x44 ∷ 0x1c ∷ []) 1 ≡ 7236
+unfolding little.numberAt numberIn
 little-port = refl
 
-pub little-past-the-end : little.number 2 (0x44 ∷ 0x1c ∷ []) 1 ≡ 0x1c
-unfolding numberIn
+-- where its bytes are not all there, the number is 0
+pub little-past-the-end : little.numberAt 2 (0x44 ∷ 0x1c ∷ []) 1 ≡ 0
+unfolding little.numberAt
 little-past-the-end = refl
 
 pub little-written : little.written 2 7236 1 (9 ∷ 9 ∷ 9 ∷ 9 ∷ []) ≡ 9 ∷ 0x44 ∷ 0x1c ∷ 9 ∷ []

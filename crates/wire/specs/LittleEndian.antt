@@ -1,11 +1,14 @@
 -- Numbers in bytes, the least significant byte first: those of the records. Assumes nothing.
-use Prim.Native.Nat.{ℕ}
+use Prim.Native.Nat.{ℕ, _+_}
 use mathlib.Core.List.{List}
-use mathlib.Core.Bool.{false}
+use mathlib.Core.Bool.{false, cond}
+use lib.ListN.{length}
+use lib.Dec.{leb}
 use Rattle.wire.specs.Number.{numberIn, bytesIn, writtenIn}
 
-abbrev pub number : ℕ → List ℕ → ℕ → ℕ
-number = numberIn false
+-- the number in the n bytes from `at`, or 0 where they are not all there
+unfoldable pub numberAt : ℕ → List ℕ → ℕ → ℕ
+numberAt n s at = cond (leb (at + n) (length s)) (numberIn false n s at) 0
 
 abbrev pub bytes : ℕ → ℕ → List ℕ
 bytes = bytesIn false

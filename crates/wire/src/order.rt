@@ -1,9 +1,9 @@
-// Numbers of up to four bytes in either order: `big` is the most significant byte first. The loops that every width and order shares.
+// Numbers of up to four bytes in either order: `big` is the most significant byte first. The loops that both orders share.
 ghost use mathlib.Core.Path.{_≡_};
 ghost use mathlib.Core.Bool.{cond};
 ghost use Prim.Native.Nat.{_+_, _-_, _≤_, _<_, _^_};
 ghost use lib.Dec.{leb};
-ghost use lib.ListN.{length, getD};
+ghost use lib.ListN.{length};
 ghost use Rattle.wire.specs.Number.{numberIn, writtenIn};
 
 // The place of byte k of n, counted from the most significant.
@@ -17,20 +17,8 @@ fn place(big: bool, n: usize, k: usize) -> usize
     n - 1 - k
 }
 
-// The byte k places after `at`, or 0 past the end.
-fn byte(s: &[u8], at: usize, k: usize) -> u8
-    ensures { λ r. ⌜ r ≡ getD (now (s .entry)) (at + k) 0 ⌝ }
-{
-    if at < s.len() {
-        if k < s.len() - at {
-            return s[at + k];
-        }
-    }
-    0
-}
-
 // The number in the n bytes from `at`, where all of them are there.
-fn whole(big: bool, s: &[u8], at: usize, n: usize) -> u32
+pub(crate) fn whole(big: bool, s: &[u8], at: usize, n: usize) -> u32
     requires { ⌜ (n ≤ 4) × (at + n ≤ length (now s)) ⌝ }
     ensures { λ r. ⌜ (r ≡ numberIn big n (now (s .entry)) at) × (r < 256 ^ n) ⌝ }
 {
@@ -42,34 +30,6 @@ fn whole(big: bool, s: &[u8], at: usize, n: usize) -> u32
         k += 1;
     }
     value
-}
-
-// The number in the n bytes from `at`, where the bytes may end before.
-fn padded(big: bool, s: &[u8], at: usize, n: usize) -> u32
-    requires { ⌜ n ≤ 4 ⌝ }
-    ensures { λ r. ⌜ (r ≡ numberIn big n (now (s .entry)) at) × (r < 256 ^ n) ⌝ }
-{
-    let mut v: u32 = 0;
-    let mut k = 0;
-    while k < n {
-        let b = byte(s, at, place(big, n, k)) as u32;
-        v = 256 * v + b;
-        k += 1;
-    }
-    v
-}
-
-// The number in the n bytes from `at`. One test finds whether all of them are there.
-pub(crate) fn read(big: bool, s: &[u8], at: usize, n: usize) -> u32
-    requires { ⌜ n ≤ 4 ⌝ }
-    ensures { λ r. ⌜ (r ≡ numberIn big n (now (s .entry)) at) × (r < 256 ^ n) ⌝ }
-{
-    if at < s.len() {
-        if n <= s.len() - at {
-            return whole(big, s, at, n);
-        }
-    }
-    padded(big, s, at, n)
 }
 
 // Writes v in the n bytes from `at` and answers true; where they don't fit it answers false and changes nothing.

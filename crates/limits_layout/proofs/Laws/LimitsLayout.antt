@@ -10,7 +10,7 @@ use Rattle.cursor_limits.specs.declared.value.Value.{Value}
 use Rattle.cursor_limits.specs.declared.value.Value.the-variants as value
 use Rattle.wire.specs.Laid.{laid}
 use Rattle.limits_layout.specs.LimitsLayout.{xorByte, xorOf, numberBytes, limitsBytes, limitsIn, LimitsBack}
-use Rattle.wire.specs.LittleEndian.{number, bytes, written}
+use Rattle.wire.specs.LittleEndian.{numberAt, bytes, written}
 use Rattle.wire.proofs.Laws.Layout.{nothing, Begins, laid-begins, before, number-in}
 use Rattle.wire.proofs.Laws.Written.{next, whole}
 use Rattle.wire.proofs.Laws.Number.{length-bytes}
@@ -55,19 +55,19 @@ module _ (supported x w h p : ℕ) where
     begins-two : Begins 2 two s
     begins-two = before 2 two 2 w begins-four
 
-    pub supported-in : supported < 256 → number 1 s 0 ≡ supported
+    pub supported-in : supported < 256 → numberAt 1 s 0 ≡ supported
     supported-in l = number-in 0 [] 1 supported l (before 1 (bytes 1 supported) 1 x begins-two)
 
-    pub xor-in : x < 256 → number 1 s 1 ≡ x
+    pub xor-in : x < 256 → numberAt 1 s 1 ≡ x
     xor-in l = number-in 1 (bytes 1 supported) 1 x l begins-two
 
-    pub width-in : w < 65536 → number 2 s 2 ≡ w
+    pub width-in : w < 65536 → numberAt 2 s 2 ≡ w
     width-in l = number-in 2 two 2 w l begins-four
 
-    pub height-in : h < 65536 → number 2 s 4 ≡ h
+    pub height-in : h < 65536 → numberAt 2 s 4 ≡ h
     height-in l = number-in 4 four 2 h l begins-six
 
-    pub port-in : p < 65536 → number 2 s 6 ≡ p
+    pub port-in : p < 65536 → numberAt 2 s 6 ≡ p
     port-in l = number-in 6 six 2 p l begins
 
 pub length-limits : (v : Value) → length (limitsBytes v) ≡ 8

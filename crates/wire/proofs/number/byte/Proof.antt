@@ -5,8 +5,8 @@ use native.Mathlib.Omega.{arith}
 use borrow.Author.Needs.{needs}
 use denote.Ref.{now}
 use lib.ListN.{List·getD-eq-default}
-use Rattle.wire.proofs.order.byte.Statement.{statement}
-use Rattle.wire.proofs.order.byte.Tie as tie
+use Rattle.wire.proofs.number.byte.Statement.{statement}
+use Rattle.wire.proofs.number.byte.Tie as tie
 
 sub-if2 : tie.Need-sub-if2
 sub-if2 c = search needs

@@ -1,34 +1,31 @@
 -- After k bytes v is the number in them, and small enough for the next one. Assumes nothing.
-use Prim.Native.Nat.{ℕ, _+_, _-_}
-use mathlib.Core.Path.{ap, _∙_}
+use Prim.Native.Nat.{_-_}
+use mathlib.Core.Bool.{true}
 use native.Mathlib.Omega.{arith}
 use borrow.Author.Needs.{needs}
 use denote.Ref.{now}
-use lib.ListN.{getD}
 use Rattle.wire.proofs.Laws.Digits.{Read, none-read, one-fits, one-read, all-read}
-use Rattle.wire.proofs.order.padded.Statement.{statement}
-use Rattle.wire.proofs.order.padded.Tie as tie
+use Rattle.wire.proofs.number.padded.Statement.{statement}
+use Rattle.wire.proofs.number.padded.Tie as tie
 
 abbrev Inv-loop : tie.InvT-loop
-Inv-loop big s at n v₀ k₀ v k = Read big s at n k v
+Inv-loop s at n v₀ k₀ v k = Read true s at n k v
 
 abbrev μ-loop : tie.MeasureT-loop
-μ-loop big s at n v₀ k₀ v k = n - k
+μ-loop s at n v₀ k₀ v k = n - k
 
 loop-holds : tie.Need-loop-holds Inv-loop μ-loop
-loop-holds c = let a = c .before .args in none-read (a .big) (now (a .s)) (a .at) (a .n)
+loop-holds c = let a = c .before .args in none-read true (now (a .s)) (a .at) (a .n)
 
 mul-v : tie.Need-mul-v Inv-loop μ-loop
-mul-v c = omega (arith, one-fits (c .before .before .before .loop .inv) 0 (omega arith) (omega arith) (omega arith))
+mul-v c = omega (arith, one-fits (c .before .before .loop .inv) 0 (omega arith) (omega arith) (omega arith))
 
 add-v : tie.Need-add-v Inv-loop μ-loop
-add-v c = omega (arith, one-fits (c .before .before .before .loop .inv) (c .byte .result) (omega arith) (omega arith) (omega arith))
+add-v c = omega (arith, one-fits (c .before .before .loop .inv) (c .byte .result) (omega arith) (omega arith) (omega arith))
 
 loop-again : tie.Need-loop-again Inv-loop μ-loop
 loop-again c =
-    let a = c .before .before .before .before .before .args in
-    one-read (c .before .before .before .loop .inv) _
-    (c .byte .ensures ∙ ap (λ (i : ℕ). getD (now (a .s)) (a .at + i) 0) (c .before .place .ensures .0)) (omega arith) (omega arith)
+    one-read (c .before .before .loop .inv) _ (c .byte .ensures) (omega arith) (omega arith)
 
 returns : tie.Need-returns Inv-loop μ-loop
 returns c =
@@ -43,7 +40,6 @@ padded-spec =
     Inv-loop
     μ-loop
     loop-holds
-    (λ c κs. search needs)
     (λ c κs. search needs)
     (λ c. search needs)
     mul-v
