@@ -117,8 +117,11 @@ fn state_lines(state: State) {
     event_lines(state, 11);
 }
 
+// From a fresh session's state, Waiting, on.
 fn main() {
-    state_lines(State::Waiting);
+    let fresh = Session::fresh();
+    let first = fresh.state;
+    state_lines(first);
     state_lines(State::Handshake);
     state_lines(State::PinWait);
     state_lines(State::ReadyWait);
