@@ -32,12 +32,5 @@ returns-2 c =
 pub image-data-spec : {M : Type 1} → statement M
 image-data-spec =
     tie.close
-    (tie.spec
-    (λ c κs. search needs)
-    add-from
-    (λ c. search needs)
-    (λ c. search needs)
-    (λ c. search needs)
-    (λ c. search needs)
-    returns
+    (tie.spec (λ c κs. search needs) add-from (λ c. search needs) (λ c. search needs) (λ c. search needs) (λ c. search needs) returns
     returns-2)

@@ -11,10 +11,7 @@ use Rattle.message_calls.proofs.rtsp_port.Tie as tie
 pub rtsp-port-spec : {M : Type 1} → statement M
 rtsp-port-spec =
     tie.close
-    (tie.spec
-    (λ c κs. search needs)
-    (λ c κs. search needs)
-    (λ c κs. search needs)
+    (tie.spec (λ c κs. search needs) (λ c κs. search needs) (λ c κs. search needs)
     (λ c.
     let a = c .before .before .before .before .before .args in
     c .number-answer .ensures

@@ -11,11 +11,7 @@ use Rattle.message_calls.proofs.security_options.Tie as tie
 pub security-options-spec : {M : Type 1} → statement M
 security-options-spec =
     tie.close
-    (tie.spec
-    (λ c κs. search needs)
-    (λ c κs. search needs)
-    (λ c. search needs)
-    (λ c κs. search needs)
+    (tie.spec (λ c κs. search needs) (λ c κs. search needs) (λ c. search needs) (λ c κs. search needs)
     (λ c.
     let a = c .before .before .before .before .before .args in
     c .number-answer .ensures

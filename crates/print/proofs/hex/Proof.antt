@@ -18,13 +18,10 @@ cast-print-hex c = omega (arith, c .shared-slice-known2 .given (c .before .befor
 pub hex-spec : {M : Type 1} → statement M
 hex-spec =
     tie.close
-    (tie.spec
-    Inv-loop
-    μ-loop
+    (tie.spec Inv-loop μ-loop
     (λ c. omega arith)
     (λ c. omega arith)
-    cast-print-hex
-    (λ c κs. search needs)
+    cast-print-hex (λ c κs. search needs)
     (λ c. omega arith)
     (λ c. omega arith)
     (λ c. omega arith)

@@ -18,13 +18,9 @@ loop-again c = ⊎-elim (λ w. (omega arith, omega arith)) (λ w. (omega arith, 
 pub count-spec : {M : Type 1} → statement M
 count-spec =
     tie.close
-    (tie.spec
-    Inv-loop
-    μ-loop
+    (tie.spec Inv-loop μ-loop
     (λ c. (omega arith, omega arith))
-    (λ c. search needs)
-    (λ c κs. search needs)
-    (λ c κs. search needs)
+    (λ c. search needs) (λ c κs. search needs) (λ c κs. search needs)
     (λ c. omega arith)
     (λ c. omega arith)
     (λ c. omega arith)

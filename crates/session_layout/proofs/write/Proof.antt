@@ -59,13 +59,5 @@ returns-2 c =
 pub write-spec : {M : Type 1} → statement M
 write-spec =
     tie.close
-    (tie.spec
-    returns
-    number-of-requires
-    put-u8-requires
-    put-u8-requires-2
-    cast-put-u8
-    put-u8-requires-3
-    put-id-requires
-    same-length
+    (tie.spec returns number-of-requires put-u8-requires put-u8-requires-2 cast-put-u8 put-u8-requires-3 put-id-requires same-length
     returns-2)

@@ -28,11 +28,4 @@ same-length c =
 pub write-field-spec : {M : Type 1} → statement M
 write-field-spec =
     tie.close
-    (tie.spec
-    (λ c. search needs)
-    (λ c. search needs)
-    (λ c. search needs)
-    part-write-end
-    (λ c κs. search needs)
-    same-length
-    returns)
+    (tie.spec (λ c. search needs) (λ c. search needs) (λ c. search needs) part-write-end (λ c κs. search needs) same-length returns)

@@ -59,11 +59,7 @@ same-length c =
 pub write-limits-spec : {M : Type 1} → statement M
 write-limits-spec =
     tie.close
-    (tie.spec
-    Inv-loop
-    μ-loop
-    (λ c κs. search needs)
-    loop-holds
+    (tie.spec Inv-loop μ-loop (λ c κs. search needs) loop-holds
     (λ c. omega arith)
     (λ c. omega arith)
     (λ c. omega arith)
@@ -75,8 +71,4 @@ write-limits-spec =
     write-field-requires
     (λ c. omega arith)
     (λ c. omega arith)
-    loop-again
-    (λ c. search needs)
-    (λ c κs. search needs)
-    same-length
-    returns)
+    loop-again (λ c. search needs) (λ c κs. search needs) same-length returns)

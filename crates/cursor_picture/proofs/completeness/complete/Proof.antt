@@ -59,12 +59,4 @@ returns-5 c = simp (sym (c .before .before .is-held .ensures) ∙ not-false _ (c
 pub complete-spec : {M : Type 1} → statement M
 complete-spec =
     tie.close
-    (tie.spec
-    (λ c κs. search needs)
-    returns
-    (λ c. search needs)
-    first-empty-requires
-    returns-2
-    returns-3
-    returns-4
-    returns-5)
+    (tie.spec (λ c κs. search needs) returns (λ c. search needs) first-empty-requires returns-2 returns-3 returns-4 returns-5)

@@ -58,11 +58,4 @@ returns-5 c = sym (right (c .before) ∙ simp (not-false (c .before .known-comma
 pub check-after-size-spec : {M : Type 1} → statement M
 check-after-size-spec =
     tie.close
-    (tie.spec
-    returns
-    returns-2
-    (λ c. search needs)
-    returns-3
-    (λ c κs. search needs)
-    returns-4
-    returns-5)
+    (tie.spec returns returns-2 (λ c. search needs) returns-3 (λ c κs. search needs) returns-4 returns-5)

@@ -72,21 +72,9 @@ returns-6 c =
 pub tlv-at-spec : {M : Type 1} → statement M
 tlv-at-spec =
     tie.close
-    (tie.spec
-    (λ c. search needs)
-    returns
-    (λ c. search needs)
-    (λ c. search needs)
-    (λ c κs. search needs)
-    (λ c. search needs)
-    (λ c. search needs)
-    returns-2
-    (λ c κs. search needs)
-    returns-3
-    (λ c κs. search needs)
-    returns-4
+    (tie.spec (λ c. search needs) returns (λ c. search needs) (λ c. search needs) (λ c κs. search needs) (λ c. search needs)
+    (λ c. search needs) returns-2 (λ c κs. search needs) returns-3 (λ c κs. search needs) returns-4
     (λ c. omega (arith, type-small _ _ (own (c .before))))
     (λ c. omega (arith, type-small _ _ (own (c .before))))
     (λ c. omega (arith, type-small _ _ (own (c .before))))
-    returns-5
-    returns-6)
+    returns-5 returns-6)

@@ -47,11 +47,6 @@ returns-2 c =
 pub locate-spec : {M : Type 1} → statement M
 locate-spec =
     tie.close
-    (tie.spec
-    (λ c κs. search needs)
+    (tie.spec (λ c κs. search needs)
     (λ c κs. command-read _ (c .u8-at .result) (c .u8-at .ensures))
-    (λ c κs. search needs)
-    (λ c. search needs)
-    returns
-    walk-requires
-    returns-2)
+    (λ c κs. search needs) (λ c. search needs) returns walk-requires returns-2)

@@ -8,9 +8,5 @@ use Rattle.message_reader.proofs.walk.refuse.Tie as tie
 pub refuse-spec : {M : Type 1} → statement M
 refuse-spec =
     tie.close
-    (tie.spec
-    (λ c κs. search needs)
-    (λ c. search needs)
-    (λ c. search needs)
-    (λ c. search needs)
+    (tie.spec (λ c κs. search needs) (λ c. search needs) (λ c. search needs) (λ c. search needs)
     (λ c. (omega (arith, c .number .ensures), refl)))

@@ -68,12 +68,7 @@ returns-3 c =
 pub walk-spec : {M : Type 1} → statement M
 walk-spec =
     tie.close
-    (tie.spec
-    Inv-loop
-    μ-loop
-    loop-holds
-    (λ c κs. search needs)
-    (λ c. search needs)
+    (tie.spec Inv-loop μ-loop loop-holds (λ c κs. search needs) (λ c. search needs)
     (λ c. omega (arith, fits c .whole))
     (λ c. omega (arith, fits c .whole, c .before .before .before .before .before .before .loop .inv .short))
     (λ c. omega (arith, fits c .whole, c .before .before .before .before .before .before .loop .inv .short))
@@ -83,12 +78,6 @@ walk-spec =
     (λ c. omega (arith, fits c .whole))
     (λ c. omega (arith, fits c .whole))
     (λ c. omega (arith, fits c .whole))
-    loop-again
-    (λ c. search needs)
-    refuse-requires
-    returns
-    (λ c κs. search needs)
-    (λ c. search needs)
-    returns-2
+    loop-again (λ c. search needs) refuse-requires returns (λ c κs. search needs) (λ c. search needs) returns-2
     (λ c κs. omega (arith, c .before .before .before .before .before .loop .inv .short))
     returns-3)

@@ -16,15 +16,8 @@ pub length-ok-spec : {M : Type 1} → statement M
 unfolding lengthsOf lengthOk
 length-ok-spec =
     tie.close
-    (tie.spec
-    (λ c κs. search needs)
-    (λ c κs. search needs)
-    (λ c κs. search needs)
-    (λ c κs. search needs)
-    (λ c κs. search needs)
-    (λ c κs. search needs)
-    (λ c κs. search needs)
-    (λ c κs. search needs)
+    (tie.spec (λ c κs. search needs) (λ c κs. search needs) (λ c κs. search needs) (λ c κs. search needs) (λ c κs. search needs)
+    (λ c κs. search needs) (λ c κs. search needs) (λ c κs. search needs)
     (λ c. row 0 _ (c .before .match .keys1) (c .within .ensures))
     (λ c. row 2 _ (c .before .match .keys2) (c .within2 .ensures))
     (λ c. row 3 _ (c .before .match .keys3) (c .within3 .ensures))

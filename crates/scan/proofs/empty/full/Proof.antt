@@ -31,14 +31,11 @@ returns c = let l = c .before .loop in ap not (passed-all _ _ (l .k) _ (l .inv) 
 pub full-spec : {M : Type 1} → statement M
 full-spec =
     tie.close
-    (tie.spec
-    Inv-loop
-    μ-loop
+    (tie.spec Inv-loop μ-loop
     (λ c. passed-none _ _)
     (λ c. omega arith)
     (λ c. omega arith)
     (λ c κs. search needs)
     (λ c. omega arith)
     (λ c. omega arith)
-    again
-    returns)
+    again returns)

@@ -34,9 +34,7 @@ returns c = let l = c .before .loop in passed-all _ _ (l .k) _ (l .inv) (c .loop
 pub any-other-spec : {M : Type 1} → statement M
 any-other-spec =
     tie.close
-    (tie.spec
-    Inv-loop
-    μ-loop
+    (tie.spec Inv-loop μ-loop
     (λ c. passed-none _ _)
     (λ c. omega arith)
     (λ c. omega arith)
@@ -45,5 +43,4 @@ any-other-spec =
     (λ c κs. search needs)
     (λ c. omega arith)
     (λ c. omega arith)
-    again
-    returns)
+    again returns)

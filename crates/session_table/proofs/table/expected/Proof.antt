@@ -52,16 +52,8 @@ past n event l a b c d e = omega arith
 pub expected-spec : {M : Type 1} → statement M
 expected-spec =
     tie.close
-    (tie.spec
-    (λ c κs. search needs)
-    (λ c κs. search needs)
-    (λ c κs. search needs)
-    (λ c κs. search needs)
-    (λ c κs. search needs)
-    (λ c κs. search needs)
-    (λ c κs. search needs)
-    (λ c κs. search needs)
-    (λ c κs. search needs)
+    (tie.spec (λ c κs. search needs) (λ c κs. search needs) (λ c κs. search needs) (λ c κs. search needs) (λ c κs. search needs)
+    (λ c κs. search needs) (λ c κs. search needs) (λ c κs. search needs) (λ c κs. search needs)
     (λ c. entry _ 1 _ (c .before .match .keys1) refl (c .source-ready .ensures))
     (λ c. entry _ 2 _ (c .before .match .keys2) refl (c .stop .ensures))
     (λ c. entry _ 3 _ (c .before .match .keys3) refl (c .security-handshake .ensures))

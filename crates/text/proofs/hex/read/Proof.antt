@@ -77,17 +77,7 @@ returns-3 c =
 pub read-spec : {M : Type 1} → statement M
 read-spec =
     tie.close
-    (tie.spec
-    Inv-loop
-    μ-loop
-    returns
-    loop-holds
-    (λ c. search needs)
-    (λ c κs. search needs)
-    returns-2
-    mul-number
-    add-number
+    (tie.spec Inv-loop μ-loop returns loop-holds (λ c. search needs) (λ c κs. search needs) returns-2 mul-number add-number
     (λ c. omega arith)
     (λ c. omega arith)
-    loop-again
-    returns-3)
+    loop-again returns-3)

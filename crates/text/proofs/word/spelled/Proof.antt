@@ -67,16 +67,11 @@ returns-3 c =
 pub spelled-spec : {M : Type 1} → statement M
 spelled-spec =
     tie.close
-    (tie.spec
-    Inv-loop
-    μ-loop
-    returns
-    loop-holds
+    (tie.spec Inv-loop μ-loop returns loop-holds
     (λ c. omega arith)
     (λ c κs. search needs)
     (λ c. omega arith)
     returns-2
     (λ c. omega arith)
     (λ c. omega arith)
-    loop-again
-    returns-3)
+    loop-again returns-3)
