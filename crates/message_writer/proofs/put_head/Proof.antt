@@ -24,21 +24,6 @@ laid size c xs ys zs ds small h p q r =
     next versioned 1 c r (omega arith) .all
     ∙ ap (λ (l : List ℕ). splice 0 l xs) (rw (append-assoc, one-byte 1 (omega arith), one-byte c small))
 
-cast-put-u16 : tie.Need-cast-put-u16
-cast-put-u16 c = search needs
-
-put-u16-requires : tie.Need-put-u16-requires
-put-u16-requires c κs = search needs
-
-put-u8-requires : tie.Need-put-u8-requires
-put-u8-requires c κs = search needs
-
-put-u8-requires-2 : tie.Need-put-u8-requires-2
-put-u8-requires-2 c κs = search needs
-
-same-length : tie.Need-same-length
-same-length c = search needs
-
 returns : tie.Need-returns
 returns c =
     let put-u16 = c .before .before .before .before .before .before .before .before .before .before .put-u16 in
@@ -50,4 +35,4 @@ returns c =
 pub put-head-spec : {M : Type 1} → statement M
 put-head-spec =
     tie.close
-    (tie.spec cast-put-u16 put-u16-requires put-u8-requires put-u8-requires-2 same-length returns)
+    (tie.spec (λ c. search needs) (λ c κs. search needs) (λ c κs. search needs) (λ c κs. search needs) (λ c. search needs) returns)

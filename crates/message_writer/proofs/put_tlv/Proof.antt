@@ -34,57 +34,6 @@ laid s kind f at n xs ys zs vs small inside h p q v e =
     ∙ next-part sized vs (f .len) long (ap (λ (to : ℕ). splice to vs zs) i) (omega arith) .all
     ∙ rw (v, one-byte kind small)
 
-cast-from : tie.Need-cast-from
-cast-from c = search needs
-
-cast-len : tie.Need-cast-len
-cast-len c = search needs
-
-add-to : tie.Need-add-to
-add-to c = search needs
-
-add-start : tie.Need-add-start
-add-start c = search needs
-
-add-end : tie.Need-add-end
-add-end c = search needs
-
-put-u8-requires : tie.Need-put-u8-requires
-put-u8-requires c κs = search needs
-
-add-put-u16 : tie.Need-add-put-u16
-add-put-u16 c = search needs
-
-cast-put-u16 : tie.Need-cast-put-u16
-cast-put-u16 c = search needs
-
-put-u16-requires : tie.Need-put-u16-requires
-put-u16-requires c κs = search needs
-
-sub-copy : tie.Need-sub-copy
-sub-copy c = search needs
-
-part-copy-start : tie.Need-part-copy-start
-part-copy-start c = search needs
-
-part-copy-end : tie.Need-part-copy-end
-part-copy-end c = search needs
-
-sub-copy-2 : tie.Need-sub-copy-2
-sub-copy-2 c = search needs
-
-part-copy-start-2 : tie.Need-part-copy-start-2
-part-copy-start-2 c = search needs
-
-part-copy-end-2 : tie.Need-part-copy-end-2
-part-copy-end-2 c = search needs
-
-copy-requires : tie.Need-copy-requires
-copy-requires c κs = search needs
-
-same-length : tie.Need-same-length
-same-length c = search needs
-
 returns : tie.Need-returns
 returns c =
     let put-u8 = c .before .before .before .before .before .before .before .before .before .before .before .put-u8 in
@@ -104,22 +53,6 @@ returns c =
 pub put-tlv-spec : {M : Type 1} → statement M
 put-tlv-spec =
     tie.close
-    (tie.spec
-    cast-from
-    cast-len
-    add-to
-    add-start
-    add-end
-    put-u8-requires
-    add-put-u16
-    cast-put-u16
-    put-u16-requires
-    sub-copy
-    part-copy-start
-    part-copy-end
-    sub-copy-2
-    part-copy-start-2
-    part-copy-end-2
-    copy-requires
-    same-length
-    returns)
+    (tie.spec (λ c. search needs) (λ c. search needs) (λ c. search needs) (λ c. search needs) (λ c. search needs) (λ c κs. search needs)
+    (λ c. search needs) (λ c. search needs) (λ c κs. search needs) (λ c. search needs) (λ c. search needs) (λ c. search needs)
+    (λ c. search needs) (λ c. search needs) (λ c. search needs) (λ c κs. search needs) (λ c. search needs) returns)

@@ -56,19 +56,5 @@ returns-3 c =
 pub write-spec : {M : Type 1} → statement M
 write-spec =
     tie.close
-    (tie.spec
-    Inv-loop
-    μ-loop
-    returns
-    (λ c. search needs)
-    returns-2
-    loop-holds
-    (λ c. search needs)
-    (λ c. search needs)
-    place-requires
-    (λ c. search needs)
-    slice-write-out
-    (λ c. search needs)
-    loop-again
-    same-length
-    returns-3)
+    (tie.spec Inv-loop μ-loop returns (λ c. search needs) returns-2 loop-holds (λ c. search needs) (λ c. search needs) place-requires
+    (λ c. search needs) slice-write-out (λ c. search needs) loop-again same-length returns-3)
