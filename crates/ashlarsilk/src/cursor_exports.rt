@@ -11,7 +11,7 @@ ghost use Rattle.cursor_calls.specs.CursorCalls.{afterPosition, cursorPosition,
 use host_answers::Answer;
 use host_answers::Yes;
 
-// Writes that no position is known. Answers 0, or 10 where the pointer's record has fewer than 7 bytes, which then stay as they are.
+// Writes that no position is known. Answers 0, or 10 where the pointer's record is shorter than its layout; its bytes then stay as they are.
 #[no_mangle]
 pub extern "C" fn ashlarsilk_pointer_fresh(pointer: &mut [u8]) -> u8
     ensures answer { λ r. ⌜ r ≡ freshAnswer pointerLength (length (now (pointer .entry))) ⌝ }
@@ -20,7 +20,7 @@ pub extern "C" fn ashlarsilk_pointer_fresh(pointer: &mut [u8]) -> u8
     cursor_calls::pointer_fresh(pointer)
 }
 
-// Writes that no picture is opened. Answers 0, or 10 where the picture's record has fewer than 15 bytes, which then stay as they are.
+// Writes that no picture is opened. Answers 0, or 10 where the picture's record is shorter than its layout; its bytes then stay as they are.
 #[no_mangle]
 pub extern "C" fn ashlarsilk_picture_fresh(picture: &mut [u8]) -> u8
     ensures answer { λ r. ⌜ r ≡ freshAnswer pictureLength (length (now (picture .entry))) ⌝ }
@@ -29,8 +29,8 @@ pub extern "C" fn ashlarsilk_picture_fresh(picture: &mut [u8]) -> u8
     cursor_calls::picture_fresh(picture)
 }
 
-// The call for positions. Answers 0 and leaves the position in the pointer's record, or answers the refusal, 10 where that record has fewer
-// than 7 bytes, and changes nothing.
+// The call for positions. Answers 0 and leaves the position in the pointer's record, or answers the refusal, 10 where that record is
+// shorter than its layout, and changes nothing.
 #[no_mangle]
 pub extern "C" fn ashlarsilk_cursor_position(pointer: &mut [u8], packet: &[u8]) -> Answer
     ensures { λ r. ⌜ afterPosition r (now (pointer .exit)) ≡ cursorPosition (now (pointer .entry)) (now (packet .entry)) ⌝ }
@@ -39,8 +39,7 @@ pub extern "C" fn ashlarsilk_cursor_position(pointer: &mut [u8], packet: &[u8]) 
 }
 
 // The call for starts and continuations. Answers 0, stores the data in the image with its marks, and leaves both records as the fragment
-// sets them; or answers the refusal, 10 where the pointer's record has fewer than 7 bytes or the picture's fewer than 15, and changes
-// nothing.
+// sets them; or answers the refusal, 10 where a record is shorter than its layout, and changes nothing.
 #[no_mangle]
 pub extern "C" fn ashlarsilk_cursor_store(
     pointer: &mut [u8],
@@ -55,7 +54,7 @@ pub extern "C" fn ashlarsilk_cursor_store(
 }
 
 // Whether the opened picture is complete: a start of it was seen, and every place is filled. Answers 0 with yes or no, or the refusal with
-// no, 10 where the picture's record has fewer than 15 bytes. Changes nothing.
+// no, 10 where the picture's record is shorter than its layout. Changes nothing.
 #[no_mangle]
 pub extern "C" fn ashlarsilk_cursor_complete(picture: &[u8], image: &[u8], marks: &[u8]) -> Yes
     ensures { λ r. ⌜ r ≡ cursorComplete (now (picture .entry)) (now (image .entry)) (now (marks .entry)) ⌝ }

@@ -1,4 +1,4 @@
-// A continuation: it has no fields that a start lacks but its offset, which stands in every fragment.
+// What a continuation's own is: its type and its header (003 section 2.2.3). Its offset is a field of every fragment.
 
 pub struct Continuation {}
 

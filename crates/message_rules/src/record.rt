@@ -1,7 +1,7 @@
 // The record of a message: its command, and for each TLV type whether it is there, and the place and the length of its value in the
 // lent bytes. Where a value is not there, its place and length are not looked at.
 ghost use mathlib.Core.Path.{_≡_};
-ghost use Rattle.message_rules.specs.Record.{fieldOf, emptyOf};
+ghost use Rattle.message_rules.specs.Record.{fieldOf};
 // The value of a TLV: whether it is there, and its place and length in the lent bytes.
 pub struct Field {
     pub present: bool,
@@ -18,27 +18,6 @@ pub struct Message {
     pub security_options: Field,
     pub pin_challenge: Field,
     pub pin_reason: Field,
-}
-
-// The record of a command, with no TLV yet.
-pub fn empty(command: u8) -> Message
-    ensures { λ r. ⌜ r ≡ emptyOf command ⌝ }
-{
-    let none = Field {
-        present: false,
-        at: 0,
-        len: 0,
-    };
-    Message {
-        command,
-        friendly_name: none,
-        rtsp_port: none,
-        source_id: none,
-        security_token: none,
-        security_options: none,
-        pin_challenge: none,
-        pin_reason: none,
-    }
 }
 
 // The field of a TLV type.
