@@ -1,6 +1,7 @@
 -- The call for starts and continuations: the picture's part, and then the pointer's. Assumes nothing.
 use Prim.Native.Nat.{ℕ}
-use mathlib.Core.Bool.{cond}
+use mathlib.Core.Path.{_≡_}
+use mathlib.Core.Bool.{false, cond}
 use mathlib.Core.List.{List}
 use Rattle.wire.specs.Checks.{accepted}
 use Rattle.cursor_fragment.specs.Fragment.{isStart}
@@ -30,3 +31,7 @@ withPointer p packet a = outcome (answerWith p packet (a .answer)) (a .image) (a
 
 unfoldable pub stored : Pointer → Picture → List ℕ → List ℕ → List ℕ → Outcome StoreAnswer
 stored p q packet image marks = withPointer p packet (assembled q packet image marks)
+
+-- A continuation leaves the pointer as it was. The proof stands in proofs/Laws/Storing.antt.
+abbrev pub PointerKept : Type 0
+PointerKept = (p : Pointer) (packet : List ℕ) → isStart packet ≡ false → pointerAfter p packet ≡ p

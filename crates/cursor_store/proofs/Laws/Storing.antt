@@ -12,7 +12,7 @@ use Rattle.cursor_picture.specs.declared.Picture.{Picture}
 use Rattle.cursor_store.specs.declared.storing.Assembled.{Assembled}
 use Rattle.cursor_store.specs.declared.storing.StoreAnswer.the-variants.{Accepted, Refused}
 use Rattle.cursor_store.specs.Assembling.{storeStatus, imageAfter, marksAfter, pictureAfter, outcome, assembledAs, assembled}
-use Rattle.cursor_store.specs.Storing.{pointerAfter, withPointer, stored}
+use Rattle.cursor_store.specs.Storing.{pointerAfter, withPointer, stored, PointerKept}
 
 -- the pointer after a packet
 module _ (p : Pointer) (packet : List ℕ) where
@@ -21,9 +21,9 @@ module _ (p : Pointer) (packet : List ℕ) where
   unfolding pointerAfter
   pointer-start e = simp e
 
-  pub pointer-other : isStart packet ≡ false → pointerAfter p packet ≡ p
-  unfolding pointerAfter
-  pointer-other e = simp e
+pub pointer-kept : PointerKept
+unfolding pointerAfter
+pointer-kept p packet e = simp e
 
 module _ (p : Pointer) (q : Picture) (packet image marks : List ℕ) where
   -- what the checks decide
