@@ -32,8 +32,8 @@ fn a_broken_name_of_each_kind() {
         (promises, "`wire::sequence::newer`", "`wire::order::newer`"),
         (
             promises,
-            "`wire::signed::{signed16, unsigned16,",
-            "`wire::signed::{signed16, unsigned17,",
+            "`wire::signed::{signed16, unsigned16}`",
+            "`wire::signed::{signed16, unsigned17}`",
         ),
         (promises, "`Shown.each-accepted`", "`Shown.accepted`"),
         (promises, "`OpenedAs`", "`OpenAs`"),
