@@ -1,5 +1,6 @@
 -- Numbers in bytes, the least significant byte first: those of the records. Assumes nothing.
-use Prim.Native.Nat.{ℕ, _+_}
+use Prim.Native.Nat.{ℕ, _+_, _≤_}
+use mathlib.Core.Path.{_≡_}
 use mathlib.Core.List.{List}
 use mathlib.Core.Bool.{false, cond}
 use lib.ListN.{length}
@@ -15,3 +16,8 @@ bytes = bytesIn false
 
 abbrev pub written : ℕ → ℕ → ℕ → List ℕ → List ℕ
 written = writtenIn false
+
+-- Where its bytes are all there, a number of a record is one of the shared definition, and the laws of Number.antt hold of it. The proof stands
+-- in proofs/Laws/Layout.antt.
+abbrev pub AllThere : Type 0
+AllThere = (n at : ℕ) (s : List ℕ) → at + n ≤ length s → numberAt n s at ≡ numberIn false n s at

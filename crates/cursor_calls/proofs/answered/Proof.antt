@@ -1,5 +1,5 @@
 -- An arm an answer. Assumes nothing.
-use mathlib.Core.Path.{sym, ap, _∙_}
+use mathlib.Core.Path.{sym, ap}
 use Rattle.cursor_calls.specs.CursorCalls.{yesOrNo}
 use borrow.Author.Needs.{needs}
 use Rattle.cursor_calls.proofs.answered.Statement.{statement}

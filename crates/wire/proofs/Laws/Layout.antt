@@ -10,15 +10,14 @@ use lib.ListN.{length, getD, length-append, List·getD-append}
 use lib.Seq.{getD-append-add}
 use Rattle.wire.specs.Laid.{laid}
 use Rattle.wire.specs.Layout.{flag, isSet}
-use Rattle.wire.specs.LittleEndian.{numberAt, bytes}
-use Rattle.wire.specs.Number.{numberIn}
+use Rattle.wire.specs.LittleEndian.{numberAt, bytes, AllThere}
 use Rattle.wire.proofs.Laws.Laid.{laid-fits, length-laid}
 use Rattle.wire.proofs.Laws.Number.{number-same, number-bytes, length-bytes}
 use Rattle.wire.proofs.Laws.Splice.{in-part}
 use Rattle.wire.proofs.Laws.Written.{Written, none}
 
 -- where its bytes are there, a number is read from them; else it is 0
-pub there : (n at : ℕ) (s : List ℕ) → at + n ≤ length s → numberAt n s at ≡ numberIn false n s at
+pub there : AllThere
 unfolding numberAt
 there n at s h = simp (le-leb (at + n) (length s) h)
 
