@@ -10,11 +10,6 @@ use lib.Dec.{leb}
 use Rattle.wire.proofs.Laws.Bool.{both}
 use Rattle.wire.specs.Sequence.{distance, isNewer, NeverItself, OneWay, ShiftSame, OtherWay}
 
--- the number d after last is d ahead of it
-pub distance-ahead : (last d : ℕ) → last < 65536 → d < 65536 → distance last ((last + d) % 65536) ≡ d
-unfolding distance
-distance-ahead last d hl hd = omega arith
-
 distance-shift : (a b k : ℕ) → a < 65536 → b < 65536 → distance ((a + k) % 65536) ((b + k) % 65536) ≡ distance a b
 unfolding distance
 distance-shift a b k ha hb = omega arith
