@@ -26,19 +26,19 @@ use Rattle.host_answers.specs.Answers.{accepted, refused, short, notAnswered}
 -- The call for positions.
 
 -- an answer, with what the lent pointer then holds
-pub record PositionDone : Type 0 where
+pub record PositionOutcome : Type 0 where
   pub answer : Answer
   pub pointer : List ℕ
 
-abbrev pub afterPosition : Answer → List ℕ → PositionDone
+abbrev pub afterPosition : Answer → List ℕ → PositionOutcome
 afterPosition r ps = record { answer = r; pointer = ps }
 
 -- the pointer as the packet sets it goes into the record ps; a refusal changes nothing
-abbrev pub positionAnswered : PointerAnswer → List ℕ → PositionDone
+abbrev pub positionAnswered : PointerAnswer → List ℕ → PositionOutcome
 positionAnswered (position.Accepted p) ps = afterPosition accepted (laid (pointerBytes p) ps)
 positionAnswered (position.Refused s place) ps = afterPosition (refused s place) ps
 
-unfoldable pub cursorPosition : List ℕ → List ℕ → PositionDone
+unfoldable pub cursorPosition : List ℕ → List ℕ → PositionOutcome
 cursorPosition ps packet =
     cond (leb pointerLength (length ps)) (positionAnswered (positioned (pointerOf ps) packet) ps) (afterPosition short ps)
 
@@ -49,27 +49,27 @@ unfoldable pub recordsWhole : ℕ → ℕ → Bool
 recordsWhole pointer picture = leb pointerLength pointer && leb pictureLength picture
 
 -- an answer, with what the four lent slices then hold
-pub record StoreDone : Type 0 where
+pub record StoreOutcome : Type 0 where
   pub answer : Answer
   pub pointer : List ℕ
   pub picture : List ℕ
   pub image : List ℕ
   pub marks : List ℕ
 
-abbrev pub afterStore : Answer → List ℕ → List ℕ → List ℕ → List ℕ → StoreDone
+abbrev pub afterStore : Answer → List ℕ → List ℕ → List ℕ → List ℕ → StoreOutcome
 afterStore r ps qs image marks = record { answer = r; pointer = ps; picture = qs; image = image; marks = marks }
 
 -- the records as the fragment leaves them go into the records ps and qs; a refusal changes neither
-abbrev pub storeAnswered : StoreAnswer → List ℕ → List ℕ → List ℕ → List ℕ → StoreDone
+abbrev pub storeAnswered : StoreAnswer → List ℕ → List ℕ → List ℕ → List ℕ → StoreOutcome
 storeAnswered (store.Accepted x) ps qs image marks =
     afterStore accepted (laid (pointerBytes (x .pointer)) ps) (laid (pictureBytes (x .picture)) qs) image marks
 storeAnswered (store.Refused s place) ps qs image marks = afterStore (refused s place) ps qs image marks
 
 -- with the image and the marks as the call leaves them
-abbrev pub allAnswered : Outcome StoreAnswer → List ℕ → List ℕ → StoreDone
+abbrev pub allAnswered : Outcome StoreAnswer → List ℕ → List ℕ → StoreOutcome
 allAnswered a ps qs = storeAnswered (a .answer) ps qs (a .image) (a .marks)
 
-unfoldable pub cursorStore : List ℕ → List ℕ → List ℕ → List ℕ → List ℕ → StoreDone
+unfoldable pub cursorStore : List ℕ → List ℕ → List ℕ → List ℕ → List ℕ → StoreOutcome
 cursorStore ps qs packet image marks =
     cond (recordsWhole (length ps) (length qs))
     (allAnswered (stored (pointerOf ps) (pictureOf qs) packet image marks) ps qs)

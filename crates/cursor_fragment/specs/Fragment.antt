@@ -49,13 +49,15 @@ unfoldable pub outside : ℤ → ℕ → ℕ → Bool
 outside (pos offset) size total = ltb total (offset + size)
 outside (negsuc k) size total = true
 
+-- of a packet: its offset and its data against its total
 abbrev pub isOutside : Bool → List ℕ → Bool
 isOutside starts p = outside (offsetOf starts p) (length (imageData starts p)) (number 4 p 15)
 
--- the checks of the call for starts and continuations on the packet alone, in their order
+-- PacketMsgSize has room for the header
 abbrev pub sizeFits : Bool → List ℕ → Bool
 sizeFits starts p = leb (headerLength starts) (sizeOf p)
 
+-- the checks of the call for starts and continuations on the packet alone, in their order
 unfoldable pub fragmentFrame : Bool → List ℕ → List Check
 fragmentFrame starts p = frameChecks (takesType (typeOf p)) (sizeFits starts p) p
 

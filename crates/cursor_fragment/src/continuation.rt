@@ -1,4 +1,4 @@
-// What a continuation's own is: its type and its header (003 section 2.2.3). Its offset is a field of every fragment.
+// What is a continuation's own: its type and its header (003 section 2.2.3). Its offset is a field of every fragment.
 
 pub struct Continuation {}
 

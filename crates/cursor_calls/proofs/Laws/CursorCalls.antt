@@ -19,7 +19,7 @@ use Rattle.cursor_store.proofs.Laws.Storing.{stored-accepted, stored-refused, s
 use Rattle.cursor_layout.specs.PointerLayout.{pointerLength, pointerOf}
 use Rattle.cursor_layout.specs.PictureLayout.{pictureOf}
 use Rattle.host_answers.specs.Answers.{short}
-use Rattle.cursor_calls.specs.CursorCalls.{PositionDone, afterPosition, positionAnswered, cursorPosition, recordsWhole, StoreDone, afterStore, allAnswered, cursorStore, PositionRefusalKeeps, StoreRefusalKeeps}
+use Rattle.cursor_calls.specs.CursorCalls.{PositionOutcome, afterPosition, positionAnswered, cursorPosition, recordsWhole, StoreOutcome, afterStore, allAnswered, cursorStore, PositionRefusalKeeps, StoreRefusalKeeps}
 
 module _ (ps packet : List ℕ) where
   pub position-short : length ps < pointerLength → cursorPosition ps packet ≡ afterPosition short ps
@@ -48,7 +48,7 @@ module _ (ps qs packet image marks : List ℕ) where
 
 -- A refusal keeps everything: by the outcomes.
 
-keeps-position : (ps : List ℕ) → PositionDone → Type 0
+keeps-position : (ps : List ℕ) → PositionOutcome → Type 0
 keeps-position ps r = (r .answer .status ≡ 0 → ⊥) → r ≡ afterPosition (r .answer) ps
 
 position-kept : (ps : List ℕ) (a : PointerAnswer) → keeps-position ps (positionAnswered a ps)
@@ -64,7 +64,7 @@ position-refusal-keeps ps packet =
     (λ e h. refl)
 
 module _ (ps qs packet image marks : List ℕ) where
-  keeps-store : StoreDone → Type 0
+  keeps-store : StoreOutcome → Type 0
   keeps-store r = (r .answer .status ≡ 0 → ⊥) → r ≡ afterStore (r .answer) ps qs image marks
 
   stored-kept : (b : Bool) → accepted (storeStatus (pictureOf qs) packet image marks) ≡ b

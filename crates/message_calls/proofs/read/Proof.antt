@@ -15,6 +15,8 @@ use Rattle.message_reader.specs.Values.{messageFrom, valuesAfter}
 use Rattle.message_reader.proofs.Laws.Answer.{command-small, number-accepted, number-refused}
 use Rattle.message_layout.specs.MessageLayout.{messageBytes}
 use Rattle.message_layout.proofs.Laws.MessageLayout.{length-message}
+use Rattle.host_answers.specs.declared.Answer as host
+use Rattle.host_answers.specs.Answers.{refused}
 use Rattle.message_calls.specs.MessageCalls.{answerOf, readAnswer, recordOf, readRecord}
 use Rattle.message_calls.proofs.read.Statement.{statement}
 use Rattle.message_calls.proofs.read.Tie as tie
@@ -22,6 +24,9 @@ use Rattle.message_calls.proofs.read.Tie as tie
 short-kept : (a : Answer) (xs : List ℕ) → length xs < 64 → xs ≡ recordOf a xs
 short-kept (reader.Accepted m) xs h = sym (laid-short (messageBytes m) xs (let n = length-message m in omega arith))
 short-kept (reader.Refused st place) xs h = refl
+
+same-answer : {k l p q : ℕ} → k ≡ l → p ≡ q → _≡_ {A = host.Answer} (record { status = k; place = p }) (record { status = l; place = q })
+same-answer e f = rw (e, f)
 
 returns : tie.Need-returns
 unfolding readAnswer readRecord
@@ -37,8 +42,10 @@ returns-2 c =
     let e = l .locate .ensures .0 in
     let a = i .before .before .before .args in
     let r = number-refused (readMessage (now (a .bytes))) (λ z. c .if2 .taken (ap (λ (n : ℕ). n % 256) e ∙ z)) in
-    rw (ap (λ (n : ℕ). n % 256) e ∙ r .low, ap (λ (n : ℕ). n / 256) e ∙ r .up)
-    (simp (le-ltb _ 64 (i .if1 .left)) (ap answerOf (sym (r .is)), ap (λ (b : Answer). recordOf b (now (a .«record»))) (sym (r .is))))
+    let n = l .locate .result in
+    let numbered : _≡_ {A = host.Answer} (record { status = n % 256; place = n / 256 }) (refused (r .st) (r .place))
+    = same-answer (ap (λ (k : ℕ). k % 256) e ∙ r .low) (ap (λ (k : ℕ). k / 256) e ∙ r .up) in
+    simp (le-ltb _ 64 (i .if1 .left)) (numbered ∙ ap answerOf (sym (r .is)), ap (λ (b : Answer). recordOf b (now (a .«record»))) (sym (r .is)))
 
 cast-message-from : tie.Need-cast-message-from
 cast-message-from c =
