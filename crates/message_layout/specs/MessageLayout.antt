@@ -8,7 +8,7 @@ use Rattle.message_rules.specs.declared.record.Message.{Message}
 use Rattle.message_reader.specs.declared.Answer.the-variants as answer
 use Rattle.message_rules.specs.Record.{fieldOf}
 use Rattle.message_reader.specs.Reading.{readMessage}
-use Rattle.message_reader.specs.Theorems.{Bytes}
+use Rattle.wire.specs.Number.{Bytes}
 use Rattle.wire.specs.Laid.{laid}
 use Rattle.wire.specs.Layout.{flag, isSet}
 use Rattle.wire.specs.LittleEndian.{numberAt, bytes}

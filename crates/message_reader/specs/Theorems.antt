@@ -4,7 +4,7 @@ use mathlib.Core.Path.{_≡_}
 use mathlib.Core.List.{List}
 use mathlib.Core.Bool.{true, false}
 use mathlib.Core.Logic.{_⊎_}
-use lib.ListN.{length, getD}
+use lib.ListN.{length}
 use Rattle.wire.specs.declared.status.Status.{Status}
 use Rattle.wire.specs.declared.status.Status.the-variants as status
 use Rattle.message_rules.specs.declared.record.Field.{Field}
@@ -117,9 +117,3 @@ pub record WellFormed (s : List ℕ) (m : Message) : Type 0 where
 -- An accepted message is well-formed.
 unfoldable pub AcceptedWellFormed : Type 0
 AcceptedWellFormed = (s : List ℕ) (m : Message) → readMessage s ≡ answer.Accepted m → WellFormed s m
-
--- ---- Bytes
-
--- every element is a byte
-abbrev pub Bytes : List ℕ → Type 0
-Bytes s = (i : ℕ) → getD s i 0 < 256

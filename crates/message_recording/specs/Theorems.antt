@@ -8,7 +8,7 @@ use Rattle.wire.specs.declared.status.Status.the-variants as status
 use Rattle.message_rules.specs.declared.record.Message.{Message}
 use Rattle.message_reader.specs.declared.Answer.the-variants as answer
 use Rattle.message_reader.specs.Reading.{sizeIn, commandIn, readMessage}
-use Rattle.message_reader.specs.Theorems.{Bytes}
+use Rattle.wire.specs.Number.{Bytes}
 use Rattle.message_recording.specs.declared.line.Line.{Line}
 use Rattle.message_recording.specs.declared.line.Line.the-variants as line
 use Rattle.message_recording.specs.Cut.{neededOf}

@@ -13,7 +13,7 @@ use Rattle.message_reader.specs.declared.Answer.the-variants as answer
 use Rattle.message_rules.specs.Rules.{roleOf, foreign, needed, lengthOk, knownCommand}
 use Rattle.message_rules.specs.Record.{fieldOf, valueOf, sizeTo}
 use Rattle.message_reader.specs.Reading.{readMessage}
-use Rattle.message_reader.specs.Theorems.{Bytes}
+use Rattle.wire.specs.Number.{Bytes}
 use Rattle.wire.specs.declared.written.Written.the-variants as written
 use Rattle.message_writer.specs.Writing.{writeAnswer, output}
 

@@ -5,6 +5,7 @@ pub mod Laid
 pub mod Layout
 pub mod LittleEndian
 pub mod Number
+pub mod Numbered
 pub mod Sequence
 pub mod Signed
 pub mod Splice

@@ -46,6 +46,10 @@ bytes = bytesIn true
 abbrev pub written : ℕ → ℕ → ℕ → List ℕ → List ℕ
 written = writtenIn true
 
+-- every element is a byte, as it is in each slice that a call is lent
+abbrev pub Bytes : List ℕ → Type 0
+Bytes s = (k : ℕ) → getD s k 0 < 256
+
 -- The laws that tie reading and writing, for either order and any number of bytes. Their proofs stand in proofs/Laws/Number.antt.
 
 -- what is written reads back
@@ -55,5 +59,5 @@ ReadsBack = (big : Bool) (n v at : ℕ) (xs : List ℕ) → at + n ≤ length xs
 -- what was read from bytes is written as those bytes
 abbrev pub WritesBack : Type 0
 WritesBack =
-    (big : Bool) (n at : ℕ) (s : List ℕ) → at + n ≤ length s → ((k : ℕ) → getD s k 0 < 256)
+    (big : Bool) (n at : ℕ) (s : List ℕ) → at + n ≤ length s → Bytes s
     → bytesIn big n (numberIn big n s at) ≡ take n (drop at s)

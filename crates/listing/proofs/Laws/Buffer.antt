@@ -9,7 +9,7 @@ use borrow.Rule.Slice.PartMut.{putMid}
 use lib.Dec.{ltb}
 use lib.ListN.{length, take, drop, length-take, List·getD-eq-default}
 use lib.Seq.{getD-take, getD-drop, take-at, length-take-le}
-use Rattle.message_reader.specs.Theorems.{Bytes}
+use Rattle.wire.specs.Number.{Bytes}
 use Rattle.wire.proofs.Laws.Bool.{either}
 
 -- a part of bytes is bytes

@@ -12,7 +12,7 @@ use Rattle.message_recording.specs.declared.line.Line.{Line}
 use Rattle.message_recording.specs.declared.line.Line.the-variants as line
 use Rattle.message_recording.specs.Cut.{neededOf}
 use Rattle.message_recording.specs.Line.{lineOf}
-use Rattle.message_reader.specs.Theorems.{Bytes}
+use Rattle.wire.specs.Number.{Bytes}
 use Rattle.message_recording.specs.Theorems.{BoundedNeed}
 use Rattle.message_recording.proofs.Laws.Line.{bounded-need}
 use Rattle.message_recording.proofs.Laws.Listing.{message-size}

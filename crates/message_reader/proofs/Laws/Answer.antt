@@ -3,6 +3,7 @@ use Prim.Native.Nat.{ℕ, _+_, _*_, _/_, _%_, _<_}
 use mathlib.Core.Path.{_≡_, refl, sym, ap, _∙_}
 use mathlib.Core.List.{List}
 use native.Mathlib.Omega.{arith}
+use Rattle.wire.specs.Number.{Bytes}
 use Rattle.wire.specs.declared.status.Status.{Status}
 use Rattle.wire.specs.Status.{numberOf, statusFor}
 use Rattle.wire.proofs.Laws.Status.{status-back, number-at-most}
@@ -12,7 +13,7 @@ use Rattle.message_rules.specs.Record.{absent, fieldOf}
 use Rattle.message_reader.specs.declared.Answer.{Answer}
 use Rattle.message_reader.specs.declared.Answer.the-variants as answer
 use Rattle.message_reader.specs.Reading.{lengthAt, readMessage}
-use Rattle.message_reader.specs.Theorems.{Bytes, RefusedExactly, AcceptedExactly, AcceptedWellFormed}
+use Rattle.message_reader.specs.Theorems.{RefusedExactly, AcceptedExactly, AcceptedWellFormed}
 use Rattle.message_reader.specs.Values.{high, fieldFrom, messageFrom, valueNumber, valuesOf, valuesAfter, answerNumber}
 use Rattle.message_reader.proofs.Laws.Reading.{value, headed-short, refused-exactly, accepted-exactly, refusal-number}
 use Rattle.message_reader.proofs.Laws.Values.{value-from}

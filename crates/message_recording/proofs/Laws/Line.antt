@@ -9,6 +9,7 @@ use borrow.Author.Tests.{eqb-true, eqb-false, ne-eqb}
 use lib.ListN.{length, take, drop, length-append, take-append-drop}
 use lib.Seq.{take-append-le, take-all, length-take-le}
 use lib.Dec.{eqb}
+use Rattle.wire.specs.Number.{Bytes}
 use Rattle.wire.specs.declared.status.Status.{Status}
 use Rattle.wire.specs.declared.status.Status.the-variants as status
 use Rattle.wire.proofs.Laws.Bool.{impossible, by-test}
@@ -19,7 +20,7 @@ use Rattle.message_reader.specs.declared.Answer.the-variants as answer
 use Rattle.message_reader.specs.declared.header.Size.{Size}
 use Rattle.message_reader.specs.declared.header.Size.the-variants as size
 use Rattle.message_reader.specs.Reading.{sizeIn, readSize, readMessage}
-use Rattle.message_reader.specs.Theorems.{Bytes, Refusal, RefusedExactly, AcceptedExactly}
+use Rattle.message_reader.specs.Theorems.{Refusal, RefusedExactly, AcceptedExactly}
 use Rattle.message_reader.specs.Theorems as given
 use Rattle.message_reader.proofs.Laws.Header.{size-declared, size-refused, size-there, size-below, size-append, size-take}
 use Rattle.message_reader.proofs.Laws.Reading.{refused-exactly, accepted-exactly}

@@ -10,7 +10,7 @@ use native.Mathlib.Nat.{eq-or-lt-of-le}
 use borrow.Author.Tests.{le-leb, ne-eqb}
 use lib.ListN.{length, take, drop}
 use lib.Seq.{take-add, drop-cons, drop-drop, take-length}
-use Rattle.wire.specs.Number.{bytes}
+use Rattle.wire.specs.Number.{bytes, Bytes}
 use Rattle.wire.proofs.Laws.Number.{writes-back, number-small}
 use Rattle.message_rules.specs.declared.record.Field.{Field}
 use Rattle.message_rules.specs.declared.record.Message.{Message}
@@ -20,7 +20,7 @@ use Rattle.message_rules.specs.Rules.{roleOf, foreign, needed}
 use Rattle.message_rules.specs.Record.{fieldOf, withField, sizeTo}
 use Rattle.message_reader.specs.Reading.{commandIn, typeAt, lengthAt, nextAt, valueAt, readMessage}
 use Rattle.message_writer.specs.Writing.{fieldOk, writable, tlvBytes, bodyTo, headBytes, messageOf, output}
-use Rattle.message_reader.specs.Theorems.{Headed, RightTlv, Reached, Bytes, WellFormed, AcceptedExactly, AcceptedWellFormed}
+use Rattle.message_reader.specs.Theorems.{Headed, RightTlv, Reached, WellFormed, AcceptedExactly, AcceptedWellFormed}
 use Rattle.message_writer.specs.Theorems.{Rising, WritesBack}
 use Rattle.message_reader.specs.Theorems as given
 use Rattle.wire.proofs.Laws.Bool.{either, not-both}

@@ -8,7 +8,7 @@ use lib.ListN.{length, getD, take, drop, length-append, length-drop, List·getD-
 use lib.Seq.{getD-at, getD-drop, take-suc, drop-cons}
 use borrow.Author.Tests.{le-leb}
 use Rattle.wire.specs.Splice.{splice}
-use Rattle.wire.specs.Number.{lowAt, restAt, joined, numberIn, bytesIn, writtenIn, ReadsBack, WritesBack}
+use Rattle.wire.specs.Number.{lowAt, restAt, joined, numberIn, bytesIn, writtenIn, Bytes, ReadsBack, WritesBack}
 use Rattle.wire.proofs.Laws.Splice.{in-part}
 
 -- reading looks at the n bytes alone
@@ -30,7 +30,7 @@ number-same false (suc n) s t at to e =
     rw (first, rest)
 
 -- n bytes hold less than 256 to the n
-pub number-small : (big : Bool) (n at : ℕ) (s : List ℕ) → ((k : ℕ) → getD s k 0 < 256) → numberIn big n s at < 256 ^ n
+pub number-small : (big : Bool) (n at : ℕ) (s : List ℕ) → Bytes s → numberIn big n s at < 256 ^ n
 unfolding numberIn
 number-small big zero at s small = omega arith
 number-small big (suc n) at s small = omega (arith, number-small big n (restAt big at) s small, small (lowAt big n at))
