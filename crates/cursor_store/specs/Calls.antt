@@ -1,20 +1,23 @@
--- Lists of calls for starts and continuations (01, "Cursor packets": "Each call gets the records, picture and marks that the last one
--- returned or left; nobody else writes them meanwhile"). Assumes nothing.
-use Prim.Native.Nat.{ℕ, _+_, _≤_}
+-- Calls for starts and continuations by value: the records are given and returned. Assumes nothing.
+use Prim.Native.Nat.{ℕ, _≤_}
 use mathlib.Core.Path.{_≡_}
-use mathlib.Core.Bool.{Bool, true, false, _&&_}
-use mathlib.Core.List.{List, [], _∷_}
-use lib.Dec.{leb, ltb}
+use mathlib.Core.Bool.{Bool, true, false}
+use mathlib.Core.List.{List}
+use lib.Dec.{eqb}
 use lib.ListN.{length, getD}
 use Rattle.wire.specs.Sequence.{isNewer}
-use Rattle.cursor_fragment.specs.Fragment.{fragmentOf, dataOf}
+use Rattle.wire.specs.Numbered.{Numbered, acceptedAs, refusedAs}
+use Rattle.cursor_fragment.specs.Fragment.{fragmentOf}
 use Rattle.cursor_pointer.specs.declared.Pointer.{Pointer}
 use Rattle.cursor_picture.specs.declared.Picture.{Picture}
+use Rattle.cursor_picture.specs.declared.completeness.CompleteAnswer.the-variants.{Yes}
+use Rattle.cursor_picture.specs.Completeness.{completeness}
 use Rattle.cursor_store.specs.declared.storing.StoreAnswer.{StoreAnswer}
 use Rattle.cursor_store.specs.declared.storing.StoreAnswer.the-variants.{Accepted, Refused}
 use Rattle.cursor_store.specs.Judging.{ofOpened}
 use Rattle.cursor_store.specs.Assembling.{Outcome}
 use Rattle.cursor_store.specs.Storing.{stored}
+use Rattle.cursor_store.specs.Receiver.{Receiver, covers}
 
 -- what the host keeps between the calls: both records, the picture and the marks
 pub record State : Type 0 where
@@ -23,14 +26,13 @@ pub record State : Type 0 where
   pub image : List ℕ
   pub marks : List ℕ
 
--- a call is given by the bytes of its packet; `fragment`: one of the fragments that demand 3 speaks of; `other`: any other
-pub data Call : Type 0 where
-  fragment : List ℕ → Call
-  other : List ℕ → Call
+-- the paper's number of an answer, and its place
+abbrev pub numbered : StoreAnswer → Numbered
+numbered (Accepted x) = acceptedAs
+numbered (Refused s place) = refusedAs s place
 
 abbrev pub isAccepted : StoreAnswer → Bool
-isAccepted (Accepted x) = true
-isAccepted (Refused s k) = false
+isAccepted a = eqb (numbered a .number) 0
 
 -- the answer to a packet, and what picture and marks then hold
 abbrev pub answered : State → List ℕ → Outcome StoreAnswer
@@ -45,15 +47,18 @@ kept (Refused s k) p q image marks = record { pointer = p; picture = q; image = 
 unfoldable pub next : State → List ℕ → State
 next s packet = kept (answered s packet .answer) (s .pointer) (s .picture) (answered s packet .image) (answered s packet .marks)
 
--- the state after a list of calls
-unfoldable pub run : State → List Call → State
-run s [] = s
-run s (fragment packet ∷ l) = run (next s packet) l
-run s (other packet ∷ l) = run (next s packet) l
-
--- "A fragment covers one place for each data byte, from its offset on".
-abbrev pub covers : List ℕ → ℕ → Bool
-covers packet i = leb (fragmentOf packet .offset) i && ltb i (fragmentOf packet .offset + length (dataOf packet))
+-- the receiver that keeps its records by value; the completeness question is asked of them
+abbrev pub byValue : Receiver
+byValue = record {
+  State = State;
+  picture = λ s. s .picture;
+  image = λ s. s .image;
+  marks = λ s. s .marks;
+  accepts = λ s packet. isAccepted (answered s packet .answer);
+  next = next;
+  Complete = λ s. completeness (s .picture) (length (s .image)) (s .marks) ≡ Yes;
+  Lent = λ s l. Unit {0};
+}
 
 -- The proofs of these laws stand in proofs/Laws/Calls.antt.
 

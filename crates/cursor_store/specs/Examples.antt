@@ -28,7 +28,8 @@ use Rattle.cursor_picture.specs.Completeness.{firstEmptyOf, completeness}
 use Rattle.cursor_store.specs.Judging.{ofOpened, sameStart, startDiffers, bytesDiffer, openedRules, otherRules, judging}
 use Rattle.cursor_store.specs.Assembling.{storeChecks, storeStatus, openedFor, clearedFor, imageAfter, marksAfter, withStart, pictureAfter, assembledAs, assembled}
 use Rattle.cursor_store.specs.Storing.{pointerAfter, stored}
-use Rattle.cursor_store.specs.Calls.{State, Call, fragment, other, next, run}
+use Rattle.cursor_store.specs.Receiver.{Call, fragment, other, run}
+use Rattle.cursor_store.specs.Calls.{State, next, byValue}
 use Rattle.cursor_store.specs.DemandThree.{Whole, Given, SameFragments, SameEnd}
 
 -- an RTP header; the sequence number's two bytes
@@ -98,17 +99,17 @@ abbrev pub backwards : List Call
 backwards = fragment (last 7) ∷ fragment (start 39 1) ∷ other (start 41 5) ∷ fragment (middle 2) ∷ fragment (start 39 1) ∷ []
 
 unfoldable pub PremisesMet : Type 0
-PremisesMet = Given whole opened forwards × Given whole opened backwards × SameFragments forwards backwards
+PremisesMet = Given byValue whole opened forwards × Given byValue whole opened backwards × SameFragments forwards backwards
 
 unfoldable pub SameFromBoth : Type 0
-SameFromBoth = SameEnd (run opened forwards) (run opened backwards)
+SameFromBoth = SameEnd byValue (run byValue opened forwards) (run byValue opened backwards)
 
 -- what both leave, computed
 pub ends-with
-    : (run opened forwards .image ≡ 65 ∷ 66 ∷ 67 ∷ 68 ∷ 99 ∷ [])
-    × (run opened forwards .marks ≡ 1 ∷ 1 ∷ 1 ∷ 1 ∷ 7 ∷ [])
-    × (run opened backwards .marks ≡ 1 ∷ 1 ∷ 1 ∷ 1 ∷ 7 ∷ [])
-    × (completeness (run opened forwards .picture) 5 (run opened forwards .marks) ≡ complete.Yes)
+    : (run byValue opened forwards .image ≡ 65 ∷ 66 ∷ 67 ∷ 68 ∷ 99 ∷ [])
+    × (run byValue opened forwards .marks ≡ 1 ∷ 1 ∷ 1 ∷ 1 ∷ 7 ∷ [])
+    × (run byValue opened backwards .marks ≡ 1 ∷ 1 ∷ 1 ∷ 1 ∷ 7 ∷ [])
+    × (completeness (run byValue opened forwards .picture) 5 (run byValue opened forwards .marks) ≡ complete.Yes)
     × (completeness (opened .picture) 5 (opened .marks) ≡ complete.No)
 unfolding run next stored assembled assembledAs storeStatus storeChecks held hasRoom judging openedRules otherRules ofOpened sameStart startDiffers bytesDiffer conflictIn someBelow lesser isNewer distance movedTo openedFor clearedFor imageAfter marksAfter withStart pictureAfter pointerAfter splice fragmentChecks fragmentFrame firstOf frameChecks rtpHolds unusedZero numberIn signed takesType headerLength imageData startOf noStart startIn offsetBits placeOf outside fragmentAs firstEmptyOf firstEmpty completeness
 ends-with = (refl, refl, refl, refl, refl)

@@ -3,4 +3,5 @@ pub mod Calls
 pub mod DemandThree
 pub mod Examples
 pub mod Judging
+pub mod Receiver
 pub mod Storing

@@ -19,7 +19,8 @@ use Rattle.cursor_picture.proofs.Laws.Picture.{room-says}
 use Rattle.cursor_store.specs.Judging.{ofOpened, opens, judging}
 use Rattle.cursor_store.specs.Assembling.{storeStatus, openedBy, openedFor, clearedFor, imageAfter, marksAfter, withStart, pictureAfter}
 use Rattle.cursor_store.specs.Storing.{pointerAfter}
-use Rattle.cursor_store.specs.Calls.{State, isAccepted, answered, next, covers, RefusalKeeps, OutsideKept, FormerStaysClosed}
+use Rattle.cursor_store.specs.Receiver.{covers}
+use Rattle.cursor_store.specs.Calls.{State, isAccepted, answered, next, RefusalKeeps, OutsideKept, FormerStaysClosed}
 use Rattle.cursor_store.proofs.Laws.Judging.{judged-room, judged-late}
 use Rattle.cursor_store.proofs.Laws.Assembling.{store-passed}
 use Rattle.cursor_store.proofs.Laws.Storing.{stored-refused, stored-accepted}
@@ -30,7 +31,7 @@ module _ (s : State) (packet : List ℕ) where
   statusOf = storeStatus (s .picture) packet (s .image) (s .marks)
 
   not-accepted : accepted statusOf ≡ false → isAccepted (answered s packet .answer) ≡ false
-  not-accepted e = rw (stored-refused (s .pointer) (s .picture) packet (s .image) (s .marks) e)
+  not-accepted e = rw (stored-refused (s .pointer) (s .picture) packet (s .image) (s .marks) e) e
 
   is-accepted : accepted statusOf ≡ true → isAccepted (answered s packet .answer) ≡ true
   is-accepted e = rw (stored-accepted (s .pointer) (s .picture) packet (s .image) (s .marks) e)

@@ -34,7 +34,8 @@ use Rattle.cursor_store.specs.declared.storing.StoreAnswer.the-variants.
 use Rattle.cursor_store.specs.Judging.{ofOpened, sameStart, startDiffers, bytesDiffer, openedRules, judging}
 use Rattle.cursor_store.specs.Assembling.{openedFor, clearedFor, imageAfter, marksAfter, withStart, pictureAfter, outcome}
 use Rattle.cursor_store.specs.Storing.{pointerAfter}
-use Rattle.cursor_store.specs.Calls.{State, Call, fragment, other, isAccepted, answered, next, run, covers, RefusalKeeps}
+use Rattle.cursor_store.specs.Receiver.{Call, fragment, other, covers, run}
+use Rattle.cursor_store.specs.Calls.{State, isAccepted, answered, next, byValue, RefusalKeeps}
 use Rattle.cursor_store.specs.DemandThree.{Whole, totalOf, OpenedAs, CutFrom, Taken, StartsHave, Given, covered, started, AllAccepted, SameFragment, Among, Within, SameEnd, DemandThree}
 use Rattle.cursor_store.proofs.Laws.Calls.{refusal-keeps}
 use Rattle.cursor_store.proofs.Laws.Assembling.{store-status}
@@ -60,7 +61,7 @@ covers-says packet i h =
 abbrev seenAs : Start → Picture → Picture
 seenAs a q = record { opened = q .opened; id = q .id; total = q .total; opening = q .opening; seen = true; start = a }
 
-module _ (w : Whole) (s : State) (a : Start) (o : OpenedAs w s) (u : s .picture .seen ≡ true → s .picture .start ≡ a)
+module _ (w : Whole) (s : State) (a : Start) (o : OpenedAs byValue w s) (u : s .picture .seen ≡ true → s .picture .start ≡ a)
     (packet : List ℕ) (c : CutFrom w packet) (v : isStart packet ≡ true → fragmentOf packet .start ≡ a) where
   abbrev f : Fragment
   f = fragmentOf packet
@@ -233,7 +234,7 @@ module _ (w : Whole) (a : Start) (s : State) (over : ℕ → Bool) (new : Bool) 
   filled-is : (i : ℕ) → filledAt (s′ .marks) i ≡ (over i || filledAt (s .marks) i)
   filled-is i = ap (λ (m : ℕ). not (eqb m 0)) (g .marks-at i) ∙ filled-or (over i) (getD (s .marks) i 0)
 
-  still-opened : OpenedAs w s → OpenedAs w s′
+  still-opened : OpenedAs byValue w s → OpenedAs byValue w s′
   unfolding held
   still-opened o =
       let x = same-opened a (s .picture) new in
@@ -254,10 +255,10 @@ module _ (w : Whole) (a : Start) (s : State) (over : ℕ → Bool) (new : Bool) 
 
 -- what a list of calls leaves
 record Ends (w : Whole) (a : Start) (s : State) (l : List Call) : Type 0 where
-  all-accepted : AllAccepted s l
-  grown : Grown w a s (covered l) (started l) (run s l)
+  all-accepted : AllAccepted byValue s l
+  grown : Grown w a s (covered l) (started l) (run byValue s l)
 
-one-grown : (w : Whole) (s : State) (a : Start) (o : OpenedAs w s) (u : s .picture .seen ≡ true → s .picture .start ≡ a) (packet : List ℕ)
+one-grown : (w : Whole) (s : State) (a : Start) (o : OpenedAs byValue w s) (u : s .picture .seen ≡ true → s .picture .start ≡ a) (packet : List ℕ)
     (c : CutFrom w packet) (v : isStart packet ≡ true → fragmentOf packet .start ≡ a)
     → Grown w a s (covers packet) (isStart packet) (next s packet)
 one-grown w s a o u packet c v = rw (next-is w s a o u packet c v)
@@ -282,7 +283,7 @@ more-grown w a s m e over over′ new new′ g h = record {
       ∙ cond-or new new′ (seenAs a (s .picture)) (s .picture);
 }
 
-ends : (w : Whole) (a : Start) (s : State) (l : List Call) → OpenedAs w s → (s .picture .seen ≡ true → s .picture .start ≡ a) → Taken w s l → StartsHave a l
+ends : (w : Whole) (a : Start) (s : State) (l : List Call) → OpenedAs byValue w s → (s .picture .seen ≡ true → s .picture .start ≡ a) → Taken byValue w s l → StartsHave a l
     → Ends w a s l
 unfolding run covered started RefusalKeeps
 ends w a s [] o u t v = record {
@@ -295,14 +296,14 @@ ends w a s (fragment packet ∷ l) o u t v =
     let r = ends w a s′ l (still-opened w a s (covers packet) (isStart packet) s′ g o) (still-agreeing w a s (covers packet) (isStart packet) s′ g u) (t .1) (v .1) in
     record {
       all-accepted = (is-accepted w s a o u packet (t .0) (v .0), r .all-accepted);
-      grown = more-grown w a s s′ (run s′ l) (covers packet) (covered l) (isStart packet) (started l) g (r .grown);
+      grown = more-grown w a s s′ (run byValue s′ l) (covers packet) (covered l) (isStart packet) (started l) g (r .grown);
     }
 ends w a s (other packet ∷ l) o u t v =
     let e : s ≡ next s packet = sym (refusal-keeps s packet (t .0)) in
-    let r = ends w a s l o u (subst (λ (x : State). Taken w x l) (sym e) (t .1)) v in
+    let r = ends w a s l o u (subst (λ (x : State). Taken byValue w x l) (sym e) (t .1)) v in
     record {
-      all-accepted = subst (λ (x : State). AllAccepted x l) e (r .all-accepted);
-      grown = subst (λ (x : State). Grown w a s (covered l) (started l) (run x l)) e (r .grown);
+      all-accepted = subst (λ (x : State). AllAccepted byValue x l) e (r .all-accepted);
+      grown = subst (λ (x : State). Grown w a s (covered l) (started l) (run byValue x l)) e (r .grown);
     }
 
 -- Two lists with the same of these fragments.
@@ -374,17 +375,17 @@ cond-start : (b : Bool) (a a′ : Start) (q : Picture) → (b ≡ true → a ≡
 cond-start true a a′ q h = rw (h refl)
 cond-start false a a′ q h = refl
 
-module _ (w : Whole) (s : State) (l l′ : List Call) (g : Given w s l) (g′ : Given w s l′) (m : Within l l′) (m′ : Within l′ l) where
+module _ (w : Whole) (s : State) (l l′ : List Call) (g : Given byValue w s l) (g′ : Given byValue w s l′) (m : Within l l′) (m′ : Within l′ l) where
   abbrev a : Start
   a = g .agreeing .common
 
   abbrev a′ : Start
   a′ = g′ .agreeing .common
 
-  e : Grown w a s (covered l) (started l) (run s l)
+  e : Grown w a s (covered l) (started l) (run byValue s l)
   e = ends w a s l (g .opened) (g .agreeing .seen) (g .taken) (g .agreeing .starts) .grown
 
-  e′ : Grown w a′ s (covered l′) (started l′) (run s l′)
+  e′ : Grown w a′ s (covered l′) (started l′) (run byValue s l′)
   e′ = ends w a′ s l′ (g′ .opened) (g′ .agreeing .seen) (g′ .taken) (g′ .agreeing .starts) .grown
 
   same-covered : (i : ℕ) → covered l i ≡ covered l′ i
@@ -393,12 +394,12 @@ module _ (w : Whole) (s : State) (l l′ : List Call) (g : Given w s l) (g′ : 
   same-started : started l ≡ started l′
   same-started = both-ways (started l) (started l′) (within-starts l l′ m) (within-starts l′ l m′)
 
-  same-picture : run s l .picture ≡ run s l′ .picture
+  same-picture : run byValue s l .picture ≡ run byValue s l′ .picture
   same-picture =
       e .picture-is ∙ cond-start (started l) a a′ (s .picture) (within-start l l′ a a′ m (g .agreeing .starts) (g′ .agreeing .starts))
       ∙ ap (λ (b : Bool). cond b (seenAs a′ (s .picture)) (s .picture)) same-started ∙ sym (e′ .picture-is)
 
-  same-end : SameEnd (run s l) (run s l′)
+  same-end : SameEnd byValue (run byValue s l) (run byValue s l′)
   same-end = record {
     image =
         ext-getD 0 _ _ (e .image-long ∙ sym (e′ .image-long))
@@ -417,7 +418,7 @@ yes-is true true h = (refl, refl)
 yes-is true false h = absurd (let z : _≡_ {A = ℕ} 0 1 = cc in let no : ⊥ = omega arith in no)
 yes-is false y h = absurd (let z : _≡_ {A = ℕ} 0 1 = cc in let no : ⊥ = omega arith in no)
 
-module _ (w : Whole) (s : State) (o : OpenedAs w s) where
+module _ (w : Whole) (s : State) (o : OpenedAs byValue w s) where
   completeness-is : completeness (s .picture) (length (s .image)) (s .marks) ≡ cond (s .picture .seen && allFilled (s .marks) (totalOf w)) Yes No
   unfolding completeness
   completeness-is = simp (o .clear, o .opened, o .same-total)
@@ -432,17 +433,17 @@ module _ (w : Whole) (s : State) (o : OpenedAs w s) where
         λ h. completeness-is ∙ simp (h .0, all-filled (s .marks) (totalOf w) (r .1) (h .1)),
       )
 
-pub demand-three : DemandThree
+pub demand-three : DemandThree byValue
 unfolding DemandThree
 demand-three w s l g =
     let a = g .agreeing .common in
     let r = ends w a s l (g .opened) (g .agreeing .seen) (g .taken) (g .agreeing .starts) in
-    let o = still-opened w a s (covered l) (started l) (run s l) (r .grown) (g .opened) in
-    let n : run s l .picture .seen ≡ (started l || s .picture .seen) = ap (λ (q : Picture). q .seen) (r .grown .picture-is) ∙ seen-or a (s .picture) (started l) in
+    let o = still-opened w a s (covered l) (started l) (run byValue s l) (r .grown) (g .opened) in
+    let n : run byValue s l .picture .seen ≡ (started l || s .picture .seen) = ap (λ (q : Picture). q .seen) (r .grown .picture-is) ∙ seen-or a (s .picture) (started l) in
     record {
       each-accepted = r .all-accepted;
-      filled = filled-is w a s (covered l) (started l) (run s l) (r .grown);
+      filled = filled-is w a s (covered l) (started l) (run byValue s l) (r .grown);
       whole-byte = o .agreeing;
-      complete = rw (← n) (complete-yes w (run s l) o);
+      complete = rw (← n) (complete-yes w (run byValue s l) o);
       same = λ l′ g′ m. same-end w s l l′ g g′ (m .0) (m .1);
     }

@@ -21,12 +21,12 @@ use Rattle.cursor_picture.specs.Picture.{hasRoom, held}
 use Rattle.cursor_store.specs.Judging.{ofOpened, sameStart, startDiffers, bytesDiffer, openedRules, otherRules, judging}
 use Rattle.cursor_store.specs.Assembling.{storeChecks, storeStatus, openedFor, clearedFor, imageAfter, marksAfter, withStart, pictureAfter, assembledAs, assembled}
 use Rattle.cursor_store.specs.Storing.{stored}
-use Rattle.cursor_store.specs.Calls.{next}
+use Rattle.cursor_store.specs.Calls.{next, byValue}
 use Rattle.cursor_store.specs.DemandThree.{OpenedAs, CutFrom, Taken, Agreeing, SameFragments, DemandThree}
 use Rattle.cursor_store.specs.Examples.{whole, opened, start, middle, last, forwards, backwards, PremisesMet, SameFromBoth}
 use Rattle.cursor_store.proofs.Laws.DemandThree.{demand-three}
 
-is-opened : OpenedAs whole opened
+is-opened : OpenedAs byValue whole opened
 unfolding held hasRoom
 is-opened = record { opened = refl; same-id = refl; same-total = refl; clear = refl; agreeing = agree }
   where
@@ -50,15 +50,15 @@ module _ (sequence : ℕ) where
   unfolding fragmentChecks fragmentFrame firstOf frameChecks rtpHolds unusedZero numberIn signed takesType headerLength imageData offsetBits placeOf outside fragmentAs
   last-cut = record { well-formed = refl; same-id = refl; same-total = refl; same-bytes = refl }
 
-forwards-taken : Taken whole opened forwards
+forwards-taken : Taken byValue whole opened forwards
 unfolding next stored assembled assembledAs storeStatus storeChecks held hasRoom judging openedRules otherRules ofOpened sameStart startDiffers bytesDiffer conflictIn someBelow lesser openedFor clearedFor imageAfter marksAfter withStart pictureAfter splice fragmentChecks fragmentFrame firstOf frameChecks rtpHolds unusedZero numberIn signed takesType headerLength imageData startOf noStart startIn offsetBits placeOf outside fragmentAs
 forwards-taken = (start-cut 30, (refl, (middle-cut 31, (last-cut 32, (middle-cut 31, tt)))))
 
-backwards-taken : Taken whole opened backwards
+backwards-taken : Taken byValue whole opened backwards
 unfolding next stored assembled assembledAs storeStatus storeChecks held hasRoom judging openedRules otherRules ofOpened sameStart startDiffers bytesDiffer conflictIn someBelow lesser openedFor clearedFor imageAfter marksAfter withStart pictureAfter splice fragmentChecks fragmentFrame firstOf frameChecks rtpHolds unusedZero numberIn signed takesType headerLength imageData startOf noStart startIn offsetBits placeOf outside fragmentAs
 backwards-taken = (last-cut 7, (start-cut 39, (refl, (middle-cut 2, (start-cut 39, tt)))))
 
-forwards-agree : Agreeing opened forwards
+forwards-agree : Agreeing byValue opened forwards
 unfolding numberIn fragmentAs startIn startOf
 forwards-agree = record {
   common = record { «image_type» = 3; «hot_x» = 1; «hot_y» = 2 };
@@ -66,7 +66,7 @@ forwards-agree = record {
   starts = ((λ h. refl), ((λ h. absurd (false≢true h)), ((λ h. absurd (false≢true h)), ((λ h. absurd (false≢true h)), tt))));
 }
 
-backwards-agree : Agreeing opened backwards
+backwards-agree : Agreeing byValue opened backwards
 unfolding numberIn fragmentAs startIn startOf
 backwards-agree = record {
   common = record { «image_type» = 3; «hot_x» = 1; «hot_y» = 2 };
@@ -84,8 +84,8 @@ same-fragments = (
 pub premises-met : PremisesMet
 unfolding PremisesMet
 premises-met = (
-  record { opened = is-opened; taken = forwards-taken; agreeing = forwards-agree },
-  record { opened = is-opened; taken = backwards-taken; agreeing = backwards-agree },
+  record { lent = tt; opened = is-opened; taken = forwards-taken; agreeing = forwards-agree },
+  record { lent = tt; opened = is-opened; taken = backwards-taken; agreeing = backwards-agree },
   same-fragments,
 )
 
