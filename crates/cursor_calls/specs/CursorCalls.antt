@@ -6,6 +6,7 @@ use mathlib.Core.List.{List}
 use lib.Dec.{leb}
 use lib.ListN.{length}
 use Rattle.wire.specs.declared.status.Status.the-variants as status
+use Rattle.cursor_pointer.specs.declared.Pointer.{Pointer}
 use Rattle.cursor_pointer.specs.declared.PointerAnswer.{PointerAnswer}
 use Rattle.cursor_pointer.specs.declared.PointerAnswer.the-variants as position
 use Rattle.cursor_pointer.specs.Pointer.{positioned}
@@ -15,10 +16,10 @@ use Rattle.cursor_picture.specs.Completeness.{completeness}
 use Rattle.cursor_store.specs.declared.storing.StoreAnswer.{StoreAnswer}
 use Rattle.cursor_store.specs.declared.storing.StoreAnswer.the-variants as store
 use Rattle.cursor_store.specs.Assembling.{Outcome}
-use Rattle.cursor_store.specs.Storing.{stored}
+use Rattle.cursor_store.specs.Storing.{moves, stored}
 use Rattle.wire.specs.Laid.{laid}
 use Rattle.cursor_layout.specs.PointerLayout.{pointerLength, pointerBytes, pointerOf}
-use Rattle.cursor_layout.specs.PictureLayout.{pictureLength, pictureBytes, pictureOf}
+use Rattle.cursor_layout.specs.PictureLayout.{pictureLength, pictureOf, pictureLeft}
 use Rattle.host_answers.specs.declared.Answer.{Answer}
 use Rattle.host_answers.specs.declared.Yes.{Yes}
 use Rattle.host_answers.specs.Answers.{accepted, refused, short, notAnswered}
@@ -59,20 +60,24 @@ pub record StoreOutcome : Type 0 where
 abbrev pub afterStore : Answer → List ℕ → List ℕ → List ℕ → List ℕ → StoreOutcome
 afterStore r ps qs image marks = record { answer = r; pointer = ps; picture = qs; image = image; marks = marks }
 
--- the records as the fragment leaves them go into the records ps and qs; a refusal changes neither
-abbrev pub storeAnswered : StoreAnswer → List ℕ → List ℕ → List ℕ → List ℕ → StoreOutcome
-storeAnswered (store.Accepted x) ps qs image marks =
-    afterStore accepted (laid (pointerBytes (x .pointer)) ps) (laid (pictureBytes (x .picture)) qs) image marks
-storeAnswered (store.Refused s place) ps qs image marks = afterStore (refused s place) ps qs image marks
+-- what an accepted packet leaves of the pointer's record ps: the pointer afterwards where the packet moves it, else each byte as it was
+unfoldable pub pointerLeft : List ℕ → Pointer → List ℕ → List ℕ
+pointerLeft packet after ps = cond (moves (pointerOf ps) packet) (laid (pointerBytes after) ps) ps
+
+-- the pointer and the picture's record, each as the packet leaves it, go into the records ps and qs; a refusal changes neither
+abbrev pub storeAnswered : List ℕ → StoreAnswer → List ℕ → List ℕ → List ℕ → List ℕ → StoreOutcome
+storeAnswered packet (store.Accepted x) ps qs image marks =
+    afterStore accepted (pointerLeft packet (x .pointer) ps) (pictureLeft (pictureOf qs) (x .picture) qs) image marks
+storeAnswered packet (store.Refused s place) ps qs image marks = afterStore (refused s place) ps qs image marks
 
 -- with the image and the marks as the call leaves them
-abbrev pub allAnswered : Outcome StoreAnswer → List ℕ → List ℕ → StoreOutcome
-allAnswered a ps qs = storeAnswered (a .answer) ps qs (a .image) (a .marks)
+abbrev pub allAnswered : List ℕ → Outcome StoreAnswer → List ℕ → List ℕ → StoreOutcome
+allAnswered packet a ps qs = storeAnswered packet (a .answer) ps qs (a .image) (a .marks)
 
 unfoldable pub cursorStore : List ℕ → List ℕ → List ℕ → List ℕ → List ℕ → StoreOutcome
 cursorStore ps qs packet image marks =
     cond (recordsWhole (length ps) (length qs))
-    (allAnswered (stored (pointerOf ps) (pictureOf qs) packet image marks) ps qs)
+    (allAnswered packet (stored (pointerOf ps) (pictureOf qs) packet image marks) ps qs)
     (afterStore short ps qs image marks)
 
 -- The completeness question: a refusal by its number.

@@ -3,11 +3,12 @@ ghost use mathlib.Core.Path.{_≡_};
 ghost use lib.ListN.{length};
 ghost use Rattle.cursor_pointer.specs.Pointer.{freshPointer};
 ghost use Rattle.cursor_picture.specs.Picture.{freshPicture};
+ghost use Rattle.cursor_store.specs.Storing.{pointerAfter};
 ghost use Rattle.wire.specs.Laid.{laid};
-ghost use Rattle.cursor_layout.specs.PointerLayout.{pointerLength, pointerBytes};
+ghost use Rattle.cursor_layout.specs.PointerLayout.{pointerLength, pointerBytes, pointerOf};
 ghost use Rattle.cursor_layout.specs.PictureLayout.{pictureLength, pictureBytes};
 ghost use Rattle.host_answers.specs.Fresh.{freshAnswer};
-ghost use Rattle.cursor_calls.specs.CursorCalls.{afterPosition, cursorPosition, recordsWhole, afterStore, cursorStore, yesOrNo, cursorComplete};
+ghost use Rattle.cursor_calls.specs.CursorCalls.{afterPosition, cursorPosition, recordsWhole, pointerLeft, afterStore, cursorStore, yesOrNo, cursorComplete};
 use cursor_layout::picture_layout;
 use cursor_layout::pointer_layout;
 use cursor_picture::completeness::CompleteAnswer;
@@ -63,7 +64,19 @@ fn are_whole(pointer: usize, picture: usize) -> bool
     picture_layout::LENGTH <= picture
 }
 
-// The call for starts and continuations. The pointer's record is read only for a fragment that is accepted.
+// Moves the pointer in its record where the accepted packet does; else each byte of the record stays, also of a flag that is neither 0 nor 1.
+fn move_pointer(pointer: &mut [u8], packet: &[u8])
+    ensures { λ _. ⌜ now (pointer .exit) ≡ pointerLeft (now (packet .entry)) (pointerAfter (pointerOf (now (pointer .entry))) (now (packet .entry))) (now (pointer .entry)) ⌝ }
+{
+    let before = pointer_layout::read(pointer);
+    if !storing::moves(before, packet) {
+        return;
+    }
+    pointer_layout::write(pointer, storing::moved_by(before, packet));
+}
+
+// The call for starts and continuations. A record is written only where it changes, and the pointer's is read only for a fragment that is
+// accepted.
 pub fn store(
     pointer: &mut [u8],
     picture: &mut [u8],
@@ -76,15 +89,15 @@ pub fn store(
     if !are_whole(pointer.len(), picture.len()) {
         return refuse(Status::NoRoom, 0);
     }
-    let assembled = storing::assemble(picture_layout::read(picture), packet, image, marks);
+    let before = picture_layout::read(picture);
+    let assembled = storing::assemble(before, packet, image, marks);
     let judged = assembled.status;
     let opened = assembled.picture;
     if status::number(judged) != 0 {
         return refuse(judged, 0);
     }
-    let moved = storing::moved_by(pointer_layout::read(pointer), packet);
-    picture_layout::write(picture, opened);
-    pointer_layout::write(pointer, moved);
+    picture_layout::change(picture, before, opened);
+    move_pointer(pointer, packet);
     accept()
 }
 

@@ -7,7 +7,7 @@
 //      26      2  HotSpotXPos
 //      28      2  HotSpotYPos
 ghost use mathlib.Core.Path.{_≡_};
-ghost use Rattle.cursor_fragment.specs.Start.{noStart, startIn, startPosition};
+ghost use Rattle.cursor_fragment.specs.Start.{noStart, startIn, sameStart, startPosition};
 use cursor_packet::position;
 use cursor_packet::position::Position;
 use wire::number;
@@ -47,6 +47,18 @@ pub(crate) fn read(packet: &[u8], starts: bool) -> Start
         hot_x: number::u16_at(packet, 26),
         hot_y: number::u16_at(packet, 28),
     }
+}
+
+// Whether the own fields of two starts are the same.
+pub fn same(a: Start, b: Start) -> bool
+    ensures { λ r. ⌜ r ≡ sameStart a b ⌝ }
+{
+    if a.image_type == b.image_type {
+        if a.hot_x == b.hot_x {
+            return a.hot_y == b.hot_y;
+        }
+    }
+    false
 }
 
 // The position of a packet that is a start, with the packet's sequence number.

@@ -1,11 +1,12 @@
 -- The record of the opened picture as bytes. Assumes nothing.
 use Prim.Native.Nat.{ℕ, _≤_, _<_}
 use mathlib.Core.Path.{_≡_}
-use mathlib.Core.Bool.{Bool}
+use mathlib.Core.Bool.{Bool, cond}
 use mathlib.Core.List.{List, _++_}
 use lib.ListN.{length}
 use Rattle.cursor_fragment.specs.declared.start.Start.{Start}
 use Rattle.cursor_picture.specs.declared.Picture.{Picture}
+use Rattle.cursor_picture.specs.Picture.{samePicture}
 use Rattle.wire.specs.Laid.{laid}
 use Rattle.wire.specs.Layout.{flag, isSet}
 use Rattle.wire.specs.LittleEndian.{numberAt, bytes}
@@ -34,6 +35,10 @@ pictureOf xs =
       seen = isSet (numberAt 1 xs 9);
       start = record { «image_type» = numberAt 1 xs 10; «hot_x» = numberAt 2 xs 11; «hot_y» = numberAt 2 xs 13 };
     }
+
+-- what a call leaves of the record xs, which held `before`: the bytes of the picture afterwards where that is another, else each byte as it was
+unfoldable pub pictureLeft : Picture → Picture → List ℕ → List ℕ
+pictureLeft before after xs = cond (samePicture before after) xs (laid (pictureBytes after) xs)
 
 -- the numbers are no larger than their bytes hold
 pub record PictureFits (q : Picture) : Type 0 where

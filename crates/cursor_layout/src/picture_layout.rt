@@ -14,7 +14,7 @@ ghost use Prim.Native.Nat.{_≤_};
 ghost use lib.ListN.{length};
 ghost use Rattle.wire.specs.Splice.{splice};
 ghost use Rattle.wire.specs.Laid.{laid};
-ghost use Rattle.cursor_layout.specs.PictureLayout.{pictureLength, startBytes, pictureBytes, pictureOf};
+ghost use Rattle.cursor_layout.specs.PictureLayout.{pictureLength, startBytes, pictureBytes, pictureOf, pictureLeft};
 use cursor_fragment::start::Start;
 use cursor_picture::Picture;
 use wire::little_endian::put_u8;
@@ -68,4 +68,14 @@ pub fn write(record: &mut [u8], picture: Picture)
     put_u32(record, 3, picture.total);
     put_u16(record, 7, picture.opening);
     write_start(record, picture.seen, start);
+}
+
+// Writes the picture where it is another than the one before; else each byte of the record stays, also of a flag that is neither 0 nor 1.
+pub fn change(record: &mut [u8], before: Picture, after: Picture)
+    ensures { λ _. ⌜ now («record» .exit) ≡ pictureLeft before after (now («record» .entry)) ⌝ }
+{
+    if cursor_picture::same(before, after) {
+        return;
+    }
+    write(record, after);
 }

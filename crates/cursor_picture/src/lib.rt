@@ -5,7 +5,8 @@ pub mod completeness;
 
 pub use completeness::complete;
 ghost use mathlib.Core.Path.{_≡_};
-ghost use Rattle.cursor_picture.specs.Picture.{freshPicture, hasRoom, held};
+ghost use Rattle.cursor_picture.specs.Picture.{freshPicture, samePicture, hasRoom, held};
+use cursor_fragment::start;
 use cursor_fragment::start::Start;
 
 // Where no picture is opened the other fields are not looked at; where no start was seen the start fields are not.
@@ -38,6 +39,30 @@ impl Picture {
             start: none,
         }
     }
+}
+
+// Whether two records are the same in every field.
+pub fn same(a: Picture, b: Picture) -> bool
+    ensures { λ r. ⌜ r ≡ samePicture a b ⌝ }
+{
+    if a.opened != b.opened {
+        return false;
+    }
+    if a.id != b.id {
+        return false;
+    }
+    if a.total != b.total {
+        return false;
+    }
+    if a.opening != b.opening {
+        return false;
+    }
+    if a.seen != b.seen {
+        return false;
+    }
+    let old = a.start;
+    let new = b.start;
+    start::same(old, new)
 }
 
 // Whether a total is no larger than the largest, the lent picture and the lent marks.

@@ -19,13 +19,13 @@ use Rattle.cursor_packet.specs.Frame.{frameChecks}
 use Rattle.cursor_packet.specs.Rtp.{rtpHolds, unusedZero}
 use Rattle.cursor_packet.specs.Position.{positionChecks, positionAt}
 use Rattle.cursor_fragment.specs.Fragment.{takesType, headerLength, imageData, offsetBits, placeOf, outside, fragmentFrame, fragmentChecks, fragmentAs}
-use Rattle.cursor_fragment.specs.Start.{startOf, noStart, startIn}
+use Rattle.cursor_fragment.specs.Start.{startOf, noStart, startIn, sameStart}
 use Rattle.cursor_pointer.specs.declared.PointerAnswer.the-variants as pointer
 use Rattle.cursor_pointer.specs.Pointer.{freshPointer, movedTo, positionStatus, positioned}
 use Rattle.cursor_picture.specs.declared.completeness.CompleteAnswer.the-variants as complete
 use Rattle.cursor_picture.specs.Picture.{freshPicture, hasRoom, held}
 use Rattle.cursor_picture.specs.Completeness.{firstEmptyOf, completeness}
-use Rattle.cursor_store.specs.Judging.{ofOpened, sameStart, startDiffers, bytesDiffer, openedRules, otherRules, judging}
+use Rattle.cursor_store.specs.Judging.{ofOpened, startDiffers, bytesDiffer, openedRules, otherRules, judging}
 use Rattle.cursor_store.specs.Assembling.{storeChecks, storeStatus, openedFor, clearedFor, imageAfter, marksAfter, withStart, pictureAfter, assembledAs, assembled}
 use Rattle.cursor_store.specs.Storing.{pointerAfter, stored}
 use Rattle.cursor_store.specs.Receiver.{Call, fragment, other, run}

@@ -14,7 +14,7 @@ use Rattle.wire.specs.declared.status.Status.the-variants as status
 use Rattle.scan.specs.Conflict.{conflictIn}
 use Rattle.wire.specs.Checks.{Check, refuse, firstOf}
 use Rattle.cursor_fragment.specs.declared.Fragment.{Fragment}
-use Rattle.cursor_fragment.specs.declared.start.Start.{Start}
+use Rattle.cursor_fragment.specs.Start.{sameStart}
 use Rattle.cursor_picture.specs.declared.Picture.{Picture}
 use Rattle.cursor_picture.specs.Picture.{hasRoom}
 
@@ -25,10 +25,6 @@ ofOpened q f = q .opened && eqb (q .id) (f .id)
 -- the sequence number is newer than the one that opened the present picture, or there is none
 abbrev pub opens : Picture → Fragment → Bool
 opens q f = isNewer (q .opened) (q .opening) (f .sequence)
-
--- the start's own fields, compared for 13
-unfoldable pub sameStart : Start → Start → Bool
-sameStart a b = eqb (a .«image_type») (b .«image_type») && (eqb (a .«hot_x») (b .«hot_x») && eqb (a .«hot_y») (b .«hot_y»))
 
 -- a second start differs in its own fields
 unfoldable pub startDiffers : Picture → Fragment → Bool

@@ -4,9 +4,9 @@ ghost use mathlib.Core.Path.{_≡_};
 ghost use Prim.Native.Nat.{_+_, _≤_};
 ghost use lib.ListN.{length};
 ghost use Rattle.wire.specs.Checks.{firstOf};
-ghost use Rattle.cursor_store.specs.Judging.{ofOpened, sameStart, startDiffers, bytesDiffer, openedRules, otherRules, judging};
+ghost use Rattle.cursor_store.specs.Judging.{ofOpened, startDiffers, bytesDiffer, openedRules, otherRules, judging};
 use cursor_fragment::Fragment;
-use cursor_fragment::start::Start;
+use cursor_fragment::start;
 use cursor_picture::Picture;
 use scan::conflict;
 use wire::sequence;
@@ -22,17 +22,6 @@ pub(crate) fn of_opened(picture: Picture, fragment: Fragment) -> bool
     false
 }
 
-fn same_start(a: Start, b: Start) -> bool
-    ensures { λ r. ⌜ r ≡ sameStart a b ⌝ }
-{
-    if a.image_type == b.image_type {
-        if a.hot_x == b.hot_x {
-            return a.hot_y == b.hot_y;
-        }
-    }
-    false
-}
-
 // Whether the fragment is a second start that differs in its own fields.
 fn start_differs(picture: Picture, fragment: Fragment) -> bool
     ensures { λ r. ⌜ r ≡ startDiffers picture fragment ⌝ }
@@ -41,7 +30,7 @@ fn start_differs(picture: Picture, fragment: Fragment) -> bool
         if picture.seen {
             let old = picture.start;
             let new = fragment.start;
-            return !same_start(old, new);
+            return !start::same(old, new);
         }
     }
     false

@@ -4,7 +4,7 @@ ghost use Prim.Native.Nat.{_+_, _≤_};
 ghost use lib.ListN.{length, replicate};
 ghost use Rattle.wire.specs.Splice.{splice};
 ghost use Rattle.cursor_store.specs.Assembling.{outcome, openedBy, openedFor, clearedFor, withStart, fragmentAssembled, assembled};
-ghost use Rattle.cursor_store.specs.Storing.{pointerAfter, stored};
+ghost use Rattle.cursor_store.specs.Storing.{moves, pointerAfter, stored};
 use super::judging;
 use cursor_fragment::Fragment;
 use cursor_fragment::start;
@@ -12,6 +12,7 @@ use cursor_fragment::start::Start;
 use cursor_picture::Picture;
 use cursor_pointer::Pointer;
 use scan::bytes;
+use wire::sequence;
 use wire::status;
 use wire::status::Status;
 
@@ -142,6 +143,17 @@ pub fn assemble(picture: Picture, packet: &[u8], image: &mut [u8], marks: &mut [
     }
     let data = cursor_fragment::image_data(packet, fragment.starts);
     take(picture, fragment, data, image, marks)
+}
+
+// Whether an accepted packet moves the pointer: a start that is newer.
+pub fn moves(pointer: Pointer, packet: &[u8]) -> bool
+    ensures { λ r. ⌜ r ≡ moves pointer (now (packet .entry)) ⌝ }
+{
+    if cursor_fragment::is_start(packet) {
+        let position = start::position(packet);
+        return sequence::newer(pointer.known, pointer.sequence, position.sequence);
+    }
+    false
 }
 
 // The pointer's part: moved by an accepted packet that is a newer start.

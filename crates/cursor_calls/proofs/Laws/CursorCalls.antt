@@ -41,10 +41,10 @@ module _ (ps qs packet image marks : List ℕ) where
   pub store-answered
       : (r : Assembled) (bytes filled : List ℕ) → recordsWhole (length ps) (length qs) ≡ true
       → outcome r bytes filled ≡ assembled (pictureOf qs) packet image marks
-      → cursorStore ps qs packet image marks ≡ allAnswered (withPointer (pointerOf ps) packet (outcome r bytes filled)) ps qs
+      → cursorStore ps qs packet image marks ≡ allAnswered packet (withPointer (pointerOf ps) packet (outcome r bytes filled)) ps qs
   unfolding cursorStore
   store-answered r bytes filled h e =
-      simp h (ap (λ (x : Outcome StoreAnswer). allAnswered x ps qs) (stored-with (pointerOf ps) (pictureOf qs) packet image marks r bytes filled e))
+      simp h (ap (λ (x : Outcome StoreAnswer). allAnswered packet x ps qs) (stored-with (pointerOf ps) (pictureOf qs) packet image marks r bytes filled e))
 
 -- A refusal keeps everything: by the outcomes.
 
@@ -68,7 +68,7 @@ module _ (ps qs packet image marks : List ℕ) where
   keeps-store r = (r .answer .status ≡ 0 → ⊥) → r ≡ afterStore (r .answer) ps qs image marks
 
   stored-kept : (b : Bool) → accepted (storeStatus (pictureOf qs) packet image marks) ≡ b
-      → keeps-store (allAnswered (stored (pointerOf ps) (pictureOf qs) packet image marks) ps qs)
+      → keeps-store (allAnswered packet (stored (pointerOf ps) (pictureOf qs) packet image marks) ps qs)
   unfolding keeps-store
   stored-kept true e = rw (stored-accepted (pointerOf ps) (pictureOf qs) packet image marks e) (λ h. absurd (h refl))
   stored-kept false e = rw (stored-refused (pointerOf ps) (pictureOf qs) packet image marks e) (λ h. refl)

@@ -33,16 +33,14 @@ returns-3 : tie.Need-returns-3
 returns-3 c =
     let p = c .before .before .before in
     let q = p .before .before .before .before in
-    let m = q .before .before in
-    let v = m .before in
-    let n = v .before .before .before in
+    let n = q .before .before .before in
     let k = n .before .before .before .before .before .before in
     let r = k .before .before .before in
     let i = r .before .before in
     let t = i .before in
     let a = t .before .before .before .before .before .before .args in
-    let passed : accepted (k .assemble .result .status) ≡ true = eq-eqb _ 0 (sym (n .number .ensures) ∙ v .before .before .if2 .left) in
-    rw (c .accept .ensures, p .write2 .ensures, q .write .ensures, m .moved-by .ensures, v .read2 .ensures)
+    let passed : accepted (k .assemble .result .status) ≡ true = eq-eqb _ 0 (sym (n .number .ensures) ∙ q .before .before .if2 .left) in
+    rw (c .accept .ensures, p .move-pointer .ensures, q .change .ensures, r .read .ensures)
     (sym (store-answered (now (a .pointer)) (now (a .picture)) (now (a .packet)) (now (a .image)) (now (a .marks)) (k .assemble .result) _ _ (sym (t .are-whole .ensures) ∙ not-false _ (i .if1 .left)) (k .assemble .ensures ∙ rw (r .read .ensures))
     ∙ simp passed))
 
@@ -51,5 +49,5 @@ store-spec =
     tie.close
     (tie.spec (λ c κs. search needs) (λ c κs. search needs) returns (λ c κs. search needs) (λ c κs. search needs) (λ c κs. search needs)
     (λ c κs. search needs) (λ c. search needs) (λ c. search needs) (λ c. search needs) returns-2 (λ c κs. search needs)
-    (λ c κs. search needs) (λ c κs. search needs) (λ c κs. search needs) (λ c κs. search needs) (λ c. search needs) (λ c. search needs)
-    (λ c. search needs) (λ c. search needs) returns-3)
+    (λ c κs. search needs) (λ c κs. search needs) (λ c. search needs) (λ c. search needs) (λ c. search needs) (λ c. search needs)
+    returns-3)

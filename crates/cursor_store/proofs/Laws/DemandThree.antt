@@ -22,6 +22,7 @@ use Rattle.wire.specs.Checks.{firstOf, accepted}
 use Rattle.cursor_fragment.specs.Fragment.{isStart, fragmentOf, dataOf, DataInside}
 use Rattle.cursor_fragment.specs.declared.Fragment.{Fragment}
 use Rattle.cursor_fragment.specs.declared.start.Start.{Start}
+use Rattle.cursor_fragment.specs.Start.{sameStart}
 use Rattle.wire.proofs.Laws.Bool.{both}
 use Rattle.cursor_fragment.proofs.Laws.Fragment.{data-inside, starts-is}
 use Rattle.cursor_picture.specs.declared.Picture.{Picture}
@@ -31,7 +32,7 @@ use Rattle.cursor_picture.specs.Completeness.{allFilled, completeness}
 use Rattle.cursor_picture.proofs.Laws.Completeness.{all-filled, filled-all}
 use Rattle.cursor_picture.proofs.Laws.Picture.{room-says, held-says}
 use Rattle.cursor_store.specs.declared.storing.StoreAnswer.the-variants.{Accepted}
-use Rattle.cursor_store.specs.Judging.{ofOpened, sameStart, startDiffers, bytesDiffer, openedRules, judging}
+use Rattle.cursor_store.specs.Judging.{ofOpened, startDiffers, bytesDiffer, openedRules, judging}
 use Rattle.cursor_store.specs.Assembling.{openedFor, clearedFor, imageAfter, marksAfter, withStart, pictureAfter, outcome}
 use Rattle.cursor_store.specs.Storing.{pointerAfter}
 use Rattle.cursor_store.specs.Receiver.{Call, fragment, other, covers, run}

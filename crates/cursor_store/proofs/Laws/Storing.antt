@@ -1,18 +1,18 @@
 -- The call for starts and continuations by its outcomes. Assumes nothing.
 use Prim.Native.Nat.{ℕ}
-use mathlib.Core.Path.{_≡_, sym, ap}
-use mathlib.Core.Bool.{true, false}
+use mathlib.Core.Path.{_≡_, refl, sym, ap}
+use mathlib.Core.Bool.{Bool, true, false, cond, _&&_}
 use mathlib.Core.List.{List}
 use Rattle.wire.specs.Checks.{accepted}
 use Rattle.cursor_fragment.specs.Fragment.{isStart, fragmentOf, dataOf}
 use Rattle.cursor_fragment.specs.Start.{startPosition}
 use Rattle.cursor_pointer.specs.declared.Pointer.{Pointer}
-use Rattle.cursor_pointer.specs.Pointer.{movedTo}
+use Rattle.cursor_pointer.specs.Pointer.{pointerMoves, movedTo}
 use Rattle.cursor_picture.specs.declared.Picture.{Picture}
 use Rattle.cursor_store.specs.declared.storing.Assembled.{Assembled}
 use Rattle.cursor_store.specs.declared.storing.StoreAnswer.the-variants.{Accepted, Refused}
 use Rattle.cursor_store.specs.Assembling.{storeStatus, imageAfter, marksAfter, pictureAfter, outcome, assembledAs, assembled}
-use Rattle.cursor_store.specs.Storing.{pointerAfter, withPointer, stored, PointerKept}
+use Rattle.cursor_store.specs.Storing.{moves, pointerAfter, withPointer, stored, PointerKept}
 
 -- the pointer after a packet
 module _ (p : Pointer) (packet : List ℕ) where
@@ -21,9 +21,19 @@ module _ (p : Pointer) (packet : List ℕ) where
   unfolding pointerAfter
   pointer-start e = simp e
 
+  -- a packet that is no start
+  pub no-start-moves : isStart packet ≡ false → moves p packet ≡ false
+  unfolding moves
+  no-start-moves e = simp e
+
 pub pointer-kept : PointerKept
-unfolding pointerAfter
-pointer-kept p packet e = simp e
+unfolding pointerAfter moves movedTo
+pointer-kept p packet e = go (isStart packet) e
+  where
+    go : (b : Bool) → (b && pointerMoves p (startPosition packet .sequence)) ≡ false
+        → cond b (movedTo p (startPosition packet .sequence) (startPosition packet .x) (startPosition packet .y)) p ≡ p
+    go true k = simp k
+    go false k = refl
 
 module _ (p : Pointer) (q : Picture) (packet image marks : List ℕ) where
   -- what the checks decide

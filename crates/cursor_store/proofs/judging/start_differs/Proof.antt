@@ -6,7 +6,7 @@ use Rattle.cursor_store.proofs.judging.start_differs.Tie as tie
 
 returns : tie.Need-returns
 unfolding startDiffers
-returns c = let i = c .before .before .before in simp (i .before .if1 .taken, i .if2 .taken, ← c .same-start .ensures)
+returns c = let i = c .before .before .before in simp (i .before .if1 .taken, i .if2 .taken, ← c .same .ensures)
 
 returns-2 : tie.Need-returns-2
 unfolding startDiffers

@@ -3,7 +3,7 @@ use mathlib.Core.Path.{sym, _∙_}
 use denote.Ref.{now}
 use mir.Syntax.{w16}
 use mir.ValLaws.{toZ-ofZ}
-use Rattle.cursor_store.proofs.Laws.Storing.{pointer-start, pointer-kept}
+use Rattle.cursor_store.proofs.Laws.Storing.{pointer-start, no-start-moves, pointer-kept}
 use borrow.Author.Needs.{needs}
 use Rattle.cursor_store.proofs.storing.moved_by.Statement.{statement}
 use Rattle.cursor_store.proofs.storing.moved_by.Tie as tie
@@ -21,7 +21,7 @@ returns-2 : tie.Need-returns-2
 returns-2 c =
     let i = c .before in
     let a = i .before .before .args in
-    sym (pointer-kept (a .pointer) (now (a .packet)) (sym (i .is-start .ensures) ∙ c .if1 .left))
+    sym (pointer-kept (a .pointer) (now (a .packet)) (no-start-moves (a .pointer) (now (a .packet)) (sym (i .is-start .ensures) ∙ c .if1 .left)))
 
 pub moved-by-spec : {M : Type 1} → statement M
 moved-by-spec =

@@ -1,8 +1,8 @@
 -- One test for each field. Assumes nothing.
 use borrow.Author.Tests.{eq-eqb, ne-eqb}
-use Rattle.cursor_store.specs.Judging.{sameStart}
-use Rattle.cursor_store.proofs.judging.same_start.Statement.{statement}
-use Rattle.cursor_store.proofs.judging.same_start.Tie as tie
+use Rattle.cursor_fragment.specs.Start.{sameStart}
+use Rattle.cursor_fragment.proofs.start.same.Statement.{statement}
+use Rattle.cursor_fragment.proofs.start.same.Tie as tie
 
 returns : tie.Need-returns
 unfolding sameStart
@@ -16,5 +16,5 @@ returns-3 : tie.Need-returns-3
 unfolding sameStart
 returns-3 c = simp (ne-eqb _ _ (c .if1 .left))
 
-pub same-start-spec : {M : Type 1} → statement M
-same-start-spec = tie.close (tie.spec returns returns-2 returns-3)
+pub same-spec : {M : Type 1} → statement M
+same-spec = tie.close (tie.spec returns returns-2 returns-3)
