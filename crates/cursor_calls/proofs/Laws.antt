@@ -1,1 +1,2 @@
 pub mod CursorCalls
+pub mod Records

@@ -50,5 +50,5 @@ pub record PictureFits (q : Picture) : Type 0 where
   pub y : q .start .«hot_y» < 65536
 
 -- What is written reads back. The proof stands in proofs/Laws/PictureLayout.antt.
-unfoldable pub PictureReadsBack : Type 0
+abbrev pub PictureReadsBack : Type 0
 PictureReadsBack = (q : Picture) (xs : List ℕ) → PictureFits q → pictureLength ≤ length xs → pictureOf (laid (pictureBytes q) xs) ≡ q

@@ -30,7 +30,7 @@ pointerOf xs =
 
 -- What is written reads back, where the sequence number is one of 16 bits, and x and y are from −32,768 to 32,767 (`mag z` is n both for
 -- n and for −n − 1). The proof stands in proofs/Laws/PointerLayout.antt.
-unfoldable pub PointerReadsBack : Type 0
+abbrev pub PointerReadsBack : Type 0
 PointerReadsBack =
     (p : Pointer) (xs : List ℕ) → p .sequence < 65536 → mag (p .x) < 32768 → mag (p .y) < 32768 → pointerLength ≤ length xs
     → pointerOf (laid (pointerBytes p) xs) ≡ p

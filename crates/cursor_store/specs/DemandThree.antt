@@ -131,5 +131,5 @@ pub record Shown (R : Receiver) (w : Whole) (s : R .State) (l : List Call) : Typ
   -- lent picture and marks, byte for byte, and the same start fields."
   pub same : (l′ : List Call) → Given R w s l′ → SameFragments l l′ → SameEnd R (run R s l) (run R s l′)
 
-unfoldable pub DemandThree : Receiver → Type 0
+abbrev pub DemandThree : Receiver → Type 0
 DemandThree R = (w : Whole) (s : R .State) (l : List Call) → Given R w s l → Shown R w s l

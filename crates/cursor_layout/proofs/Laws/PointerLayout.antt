@@ -1,21 +1,23 @@
 -- What is written of a pointer reads back. Assumes nothing.
 use Prim.Native.Nat.{ℕ, _≤_, _<_}
 use mathlib.Core.Path.{_≡_, refl, sym}
+use mathlib.Core.Bool.{false}
 use mathlib.Core.List.{List, [], _++_}
 use lib.IntN.{ℤ}
 use lib.ListN.{length}
 use lib.Signed.{mag}
 use mir.Syntax.{w16}
 use mir.Val.{ofZ, SFits}
-use mir.ValLaws.{toZ-ofZ, ofZ-fits}
+use mir.ValLaws.{toZ-ofZ, ofZ-fits, toZ-fits}
 use Rattle.wire.specs.Signed.{signed, unsigned}
 use Rattle.wire.proofs.Laws.Signed.{signed-toZ, unsigned-ofZ}
 use Rattle.cursor_pointer.specs.declared.Pointer.{Pointer}
 use Rattle.wire.specs.Laid.{laid}
 use Rattle.wire.specs.Layout.{flag}
 use Rattle.wire.specs.LittleEndian.{bytes}
-use Rattle.wire.specs.Number.{bytesIn}
+use Rattle.wire.specs.Number.{bytesIn, Bytes}
 use Rattle.cursor_layout.specs.PointerLayout.{pointerLength, pointerBytes, pointerOf, PointerReadsBack}
+use Rattle.wire.proofs.Laws.Bytes.{number-bytes-small, next-bytes}
 use Rattle.wire.proofs.Laws.Layout.{Begins, laid-begins, before, number-in, flag-in}
 
 -- two's complement goes back, and two bytes hold it
@@ -35,6 +37,10 @@ module _ (z : ℤ) (h : mag z < 32768) where
   signed-unsigned : signed 2 (unsigned 2 z) ≡ z
   signed-unsigned = rw (sym same, sym (signed-toZ w16 2 refl refl (ofZ w16 z) small)) (toZ-ofZ w16 z fits)
 
+-- a number in two bytes, as two's complement, is one of 16 bits
+pub signed-small : (v : ℕ) → v < 65536 → mag (signed 2 v) < 32768
+signed-small v h = rw (sym (signed-toZ w16 2 refl refl v h)) (toZ-fits w16 v (record { fits = h }) .sfits)
+
 -- the bytes of a pointer before each of its places
 module _ (p : Pointer) where
   abbrev d1 : List ℕ
@@ -51,7 +57,7 @@ module _ (p : Pointer) where
   pointer-begins xs h = laid-begins pointerLength (pointerBytes p) xs refl h
 
 pub pointer-reads-back : PointerReadsBack
-unfolding PointerReadsBack pointerOf
+unfolding pointerOf
 pointer-reads-back p xs s x y h =
     let b7 = pointer-begins p xs h in
     let b5 = before 5 (d5 p) 2 (unsigned 2 (p .y)) b7 in
@@ -65,3 +71,12 @@ pointer-reads-back p xs s x y h =
       signed-unsigned (p .x) x,
       signed-unsigned (p .y) y,
     )
+
+-- its own bytes are bytes
+pub pointer-bytes : (p : Pointer) → Bytes (pointerBytes p)
+unfolding pointerBytes bytesIn
+pointer-bytes p =
+    let b1 : Bytes (d1 p) = number-bytes-small false 1 (flag (p .known)) in
+    let b3 : Bytes (d3 p) = next-bytes (d1 p) false 2 (p .sequence) b1 in
+    let b5 : Bytes (d5 p) = next-bytes (d3 p) false 2 (unsigned 2 (p .x)) b3 in
+    next-bytes (d5 p) false 2 (unsigned 2 (p .y)) b5

@@ -1,12 +1,13 @@
--- What it says that a picture has room. Assumes nothing.
+-- What it says that a picture has room, and that two records are the same. Assumes nothing.
 use Prim.Native.Nat.{ℕ, _≤_}
-use mathlib.Core.Path.{_≡_}
-use mathlib.Core.Bool.{true, _&&_}
-use borrow.Author.Tests.{leb-true}
+use mathlib.Core.Path.{_≡_, refl}
+use mathlib.Core.Bool.{Bool, true, false, _&&_, Bool·beq, false≢true}
+use borrow.Author.Tests.{leb-true, eqb-true}
 use lib.Dec.{leb}
 use Rattle.wire.proofs.Laws.Bool.{both}
+use Rattle.cursor_fragment.proofs.Laws.Start.{same-start-is}
 use Rattle.cursor_picture.specs.declared.Picture.{Picture}
-use Rattle.cursor_picture.specs.Picture.{hasRoom, held}
+use Rattle.cursor_picture.specs.Picture.{samePicture, hasRoom, held}
 
 pub room-says : (t b m : ℕ) → hasRoom t b m ≡ true → (t ≤ b) × (t ≤ m)
 unfolding hasRoom
@@ -17,3 +18,24 @@ room-says t b m h =
 pub held-says : (q : Picture) (b m : ℕ) → held q b m ≡ true → q .opened ≡ true → hasRoom (q .total) b m ≡ true
 unfolding held
 held-says q b m h e = simp e at h
+
+same-flag : (a b : Bool) → Bool·beq a b ≡ true → a ≡ b
+same-flag true true h = refl
+same-flag true false h = absurd (false≢true h)
+same-flag false true h = absurd (false≢true h)
+same-flag false false h = refl
+
+pub same-picture-is : (a b : Picture) → samePicture a b ≡ true → a ≡ b
+unfolding samePicture
+same-picture-is a b h =
+    let opened = both _ _ h in
+    let id = both _ _ (opened .1) in
+    let total = both _ _ (id .1) in
+    let opening = both _ _ (total .1) in
+    let seen = both _ _ (opening .1) in
+    by-fields (same-flag _ _ (opened .0)) (eqb-true _ _ (id .0)) (eqb-true _ _ (total .0)) (eqb-true _ _ (opening .0)) (same-flag _ _ (seen .0))
+    (same-start-is _ _ (seen .1))
+  where
+    by-fields : a .opened ≡ b .opened → a .id ≡ b .id → a .total ≡ b .total → a .opening ≡ b .opening → a .seen ≡ b .seen → a .start ≡ b .start
+        → record { opened = a .opened; id = a .id; total = a .total; opening = a .opening; seen = a .seen; start = a .start } ≡ b
+    by-fields o i t n s f = rw (o, i, t, n, s, f)

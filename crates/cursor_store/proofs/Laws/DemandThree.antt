@@ -435,7 +435,6 @@ module _ (w : Whole) (s : State) (o : OpenedAs byValue w s) where
       )
 
 pub demand-three : DemandThree byValue
-unfolding DemandThree
 demand-three w s l g =
     let a = g .agreeing .common in
     let r = ends w a s l (g .opened) (g .agreeing .seen) (g .taken) (g .agreeing .starts) in

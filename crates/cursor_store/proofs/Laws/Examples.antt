@@ -22,7 +22,7 @@ use Rattle.cursor_store.specs.Judging.{ofOpened, startDiffers, bytesDiff
 use Rattle.cursor_store.specs.Assembling.{storeChecks, storeStatus, openedFor, clearedFor, imageAfter, marksAfter, withStart, pictureAfter, assembledAs, assembled}
 use Rattle.cursor_store.specs.Storing.{stored}
 use Rattle.cursor_store.specs.Calls.{next, byValue}
-use Rattle.cursor_store.specs.DemandThree.{OpenedAs, CutFrom, Taken, Agreeing, SameFragments, DemandThree}
+use Rattle.cursor_store.specs.DemandThree.{OpenedAs, CutFrom, Taken, Agreeing, SameFragments}
 use Rattle.cursor_store.specs.Examples.{whole, opened, start, middle, last, forwards, backwards, PremisesMet, SameFromBoth}
 use Rattle.cursor_store.proofs.Laws.DemandThree.{demand-three}
 
@@ -90,5 +90,5 @@ premises-met = (
 )
 
 pub same-from-both : SameFromBoth
-unfolding SameFromBoth PremisesMet DemandThree
+unfolding SameFromBoth PremisesMet
 same-from-both = let p = premises-met in demand-three whole opened forwards (p .0) .same backwards (p .1) (p .2)

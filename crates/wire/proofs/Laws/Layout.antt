@@ -21,7 +21,7 @@ pub there : AllThere
 unfolding numberAt
 there n at s h = simp (le-leb (at + n) (length s) h)
 
-power-positive : (n : ℕ) → 0 < 256 ^ n
+pub power-positive : (n : ℕ) → 0 < 256 ^ n
 power-positive zero = omega arith
 power-positive (suc n) = omega (arith, power-positive n)
 
