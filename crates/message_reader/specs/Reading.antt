@@ -8,6 +8,7 @@ use lib.Dec.{ltb, eqb}
 use Rattle.wire.specs.Number.{number}
 use Rattle.wire.specs.Below.{allBelow}
 use Rattle.wire.specs.Checks.{Check, refuse, firstOf, accepted}
+use Rattle.wire.specs.Numbered.{Numbered, acceptedAs, refusedAs}
 use Rattle.wire.specs.declared.status.Status.{Status}
 use Rattle.wire.specs.declared.status.Status.the-variants as status
 use Rattle.message_rules.specs.declared.record.Field.{Field}
@@ -112,6 +113,11 @@ tlvsFrom (suc k) s at m = cond (ltb at (length s)) (goOn (tlvsFrom k s) at m (tl
 unfoldable pub readMessage : List ℕ → Answer
 readMessage s =
     cond (accepted (headerStatus s)) (tlvsFrom (length s) s 4 (emptyOf (commandIn s))) (answer.Refused (headerStatus s) 0)
+
+-- the paper's number of an answer, and the place of a refusal
+abbrev pub numbered : Answer → Numbered
+numbered (answer.Accepted m) = acceptedAs
+numbered (answer.Refused st place) = refusedAs st place
 
 -- the status of an answer, and its place
 abbrev pub statusAt : Answer → StatusAt

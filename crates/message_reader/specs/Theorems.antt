@@ -5,6 +5,8 @@ use mathlib.Core.List.{List}
 use mathlib.Core.Bool.{true, false}
 use mathlib.Core.Logic.{_⊎_}
 use lib.ListN.{length}
+use Rattle.wire.specs.Checks.{accepted}
+use Rattle.wire.specs.Numbered.{acceptedAs, refusedAs}
 use Rattle.wire.specs.declared.status.Status.{Status}
 use Rattle.wire.specs.declared.status.Status.the-variants as status
 use Rattle.message_rules.specs.declared.record.Field.{Field}
@@ -12,7 +14,7 @@ use Rattle.message_rules.specs.declared.record.Message.{Message}
 use Rattle.message_reader.specs.declared.Answer.the-variants as answer
 use Rattle.message_rules.specs.Rules.{roleOf, foreign, needed, lengthOk, knownCommand}
 use Rattle.message_rules.specs.Record.{fieldOf, withField, emptyOf, sizeTo}
-use Rattle.message_reader.specs.Reading.{sizeIn, versionIn, commandIn, typeAt, lengthAt, nextAt, valueAt, readMessage}
+use Rattle.message_reader.specs.Reading.{sizeIn, versionIn, commandIn, typeAt, lengthAt, nextAt, valueAt, readMessage, numbered}
 
 -- ---- Each number exactly under its condition
 
@@ -72,12 +74,20 @@ pub record Acceptance (s : List ℕ) (m : Message) : Type 0 where
   pub reached : Reached s (length s) m
   pub complete : (t : ℕ) → roleOf (m .command) t ≡ needed → fieldOf m t .present ≡ true
 
--- "Each number is given exactly under its condition, first in the order of checks."
+-- "Each number is given exactly under its condition, first in the order of checks." Each with its place; 0 exactly for an accepted message.
 unfoldable pub RefusedExactly : Type 0
 RefusedExactly =
     (s : List ℕ) (st : Status) (place : ℕ)
-    → (readMessage s ≡ answer.Refused st place → Refusal s st place) × (Refusal s st place → readMessage s ≡ answer.Refused st place)
+    → (Refusal s st place → numbered (readMessage s) ≡ refusedAs st place)
+    × (accepted st ≡ false → numbered (readMessage s) ≡ refusedAs st place → Refusal s st place)
 
+unfoldable pub ZeroExactly : Type 0
+ZeroExactly =
+    (s : List ℕ)
+    → (numbered (readMessage s) .number ≡ 0 → (m : Message) × Acceptance s m)
+    × ((m : Message) → Acceptance s m → numbered (readMessage s) ≡ acceptedAs)
+
+-- An accepted message is answered with its record, and no other is.
 unfoldable pub AcceptedExactly : Type 0
 AcceptedExactly =
     (s : List ℕ) (m : Message) → (readMessage s ≡ answer.Accepted m → Acceptance s m) × (Acceptance s m → readMessage s ≡ answer.Accepted m)

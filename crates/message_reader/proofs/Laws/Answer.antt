@@ -13,9 +13,9 @@ use Rattle.message_rules.specs.Record.{absent, fieldOf}
 use Rattle.message_reader.specs.declared.Answer.{Answer}
 use Rattle.message_reader.specs.declared.Answer.the-variants as answer
 use Rattle.message_reader.specs.Reading.{lengthAt, readMessage}
-use Rattle.message_reader.specs.Theorems.{RefusedExactly, AcceptedExactly, AcceptedWellFormed}
+use Rattle.message_reader.specs.Theorems.{AcceptedExactly, AcceptedWellFormed}
 use Rattle.message_reader.specs.Values.{high, fieldFrom, messageFrom, valueNumber, valuesOf, valuesAfter, answerNumber}
-use Rattle.message_reader.proofs.Laws.Reading.{value, headed-short, refused-exactly, accepted-exactly, refusal-number}
+use Rattle.message_reader.proofs.Laws.Reading.{value, headed-short, refusal-of, accepted-exactly, refusal-number}
 use Rattle.message_reader.proofs.Laws.Values.{value-from}
 use Rattle.message_reader.proofs.Laws.WellFormed.{each-field, accepted-well-formed}
 
@@ -47,8 +47,7 @@ accepted-back s m small e =
 
 -- no refusal has the number 0
 no-refusal : (s : List ℕ) (st : Status) (place : ℕ) → readMessage s ≡ answer.Refused st place → (numberOf st + 256 * place) % 256 ≡ 0 → ⊥
-unfolding RefusedExactly
-no-refusal s st place e z = refusal-number s st place (refused-exactly s st place .0 e) (let k = number-at-most st in omega arith)
+no-refusal s st place e z = refusal-number s st place (refusal-of s st place e) (let k = number-at-most st in omega arith)
 
 module _ (s : List ℕ) (small : Bytes s) where
   -- the command of an accepted message is a byte

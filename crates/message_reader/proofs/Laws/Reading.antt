@@ -1,6 +1,6 @@
 -- Each test of the definition gives the condition of its answer, and the conditions give the tests. Assumes nothing.
 use Prim.Native.Nat.{ℕ, zero, suc, _+_, _≤_, _<_}
-use mathlib.Core.Path.{_≡_, refl, sym, _∙_, subst}
+use mathlib.Core.Path.{_≡_, refl, sym, ap, _∙_, subst}
 use mathlib.Core.List.{List}
 use mathlib.Core.Bool.{true, false, cond}
 use mathlib.Core.Logic.{_⊎_, inl, inr, ⊎-elim}
@@ -9,6 +9,7 @@ use borrow.Author.Tests.{ltb-true, ltb-false, lt-ltb, le-ltb, eqb-true, eqb-fals
 use lib.Dec.{ltb, eqb}
 use lib.ListN.{length, getD}
 use Rattle.wire.specs.Checks.{firstOf, accepted}
+use Rattle.wire.specs.Numbered.{Numbered, refusedAs}
 use Rattle.wire.specs.Status.{numberOf}
 use Rattle.wire.specs.declared.status.Status.{Status}
 use Rattle.wire.specs.declared.status.Status.the-variants as status
@@ -21,12 +22,13 @@ use Rattle.message_reader.specs.declared.tlv.Tlv.the-variants as tlv
 use Rattle.message_rules.specs.Rules.{roleOf, foreign, needed, lengthOk, knownCommand}
 use Rattle.message_rules.specs.Record.{fieldOf, withField, emptyOf}
 use Rattle.message_reader.specs.Reading.{sizeIn, versionIn, commandIn, headerStatus, typeAt, lengthAt, nextAt, valueAt, tlvChecks, tlvAt}
-use Rattle.message_reader.specs.Reading.{hasNeeded, isComplete, lastOf, goOn, tlvsFrom, readMessage}
-use Rattle.message_reader.specs.Theorems.{Headed, RightTlv, Reached, Fault, Refusal, Acceptance, RefusedExactly, AcceptedExactly}
+use Rattle.message_reader.specs.Reading.{hasNeeded, isComplete, lastOf, goOn, tlvsFrom, readMessage, numbered}
+use Rattle.message_reader.specs.Theorems.{Headed, RightTlv, Reached, Fault, Refusal, Acceptance, RefusedExactly, ZeroExactly, AcceptedExactly}
 use Rattle.message_reader.specs.Theorems as given
 use Rattle.wire.proofs.Laws.Bool.{by-test, not-both}
 use Rattle.wire.proofs.Laws.Checks.{by-check, by-last-check}
 use Rattle.wire.proofs.Laws.Number.{number-small}
+use Rattle.wire.proofs.Laws.Status.{same-status}
 use Rattle.message_rules.proofs.Laws.Rules.{type-small}
 use Rattle.wire.proofs.Laws.Below.{below-all, all-below, one-below, one-fails}
 
@@ -260,7 +262,11 @@ reached-rest s at m f (given.next r t) =
     let q = tlvs-known (b .0) s _ _ _ _ (let w = t .whole in omega arith) (b .2) (tlv-taken s _ _ t) in
     (q .0, q .1, q .2, q .3 ∙ b .3)
 
-refused : (s : List ℕ) (st : Status) (place : ℕ) → Refusal s st place → readMessage s ≡ answer.Refused st place
+-- what holds where the answer is a refusal, and that it is the answer where it holds
+pub refusal-of : (s : List ℕ) (st : Status) (place : ℕ) → readMessage s ≡ answer.Refused st place → Refusal s st place
+refusal-of s st place e = subst (OfAnswer s) e (of-read s)
+
+pub refused : (s : List ℕ) (st : Status) (place : ℕ) → Refusal s st place → readMessage s ≡ answer.Refused st place
 unfolding readMessage firstOf headerStatus lastOf isComplete
 refused s st place (given.before-header h) = simp (lt-ltb (length s) 4 h)
 refused s st place (given.before-size a b h) = simp (le-ltb (length s) 4 a, le-ltb (sizeIn s) 4 b, lt-ltb (length s) (sizeIn s) h)
@@ -284,9 +290,28 @@ accepts s m k =
     headed-read s (k .headed) ∙ sym (b .3) ∙ sym (tlvs-end (b .0) s (length s) m (omega arith))
     ∙ simp (all-below (hasNeeded m) 8 (λ t h. needed-has m t (k .complete t)))
 
+-- the number and the place of a refusal tell the answer
+numbered-back : (a : Answer) (st : Status) (place : ℕ) → accepted st ≡ false → numbered a ≡ refusedAs st place → a ≡ answer.Refused st place
+numbered-back (answer.Accepted m) st place n e =
+    absurd (eqb-false (numberOf st) 0 n (sym (ap (λ (x : Numbered). x .number) e)))
+numbered-back (answer.Refused other at) st place n e =
+    ap (λ (x : Status). answer.Refused x at) (same-status other st (ap (λ (x : Numbered). x .number) e))
+    ∙ ap (answer.Refused st) (ap (λ (x : Numbered). x .place) e)
+
 pub refused-exactly : RefusedExactly
 unfolding RefusedExactly
-refused-exactly s st place = (λ e. subst (OfAnswer s) e (of-read s), refused s st place)
+refused-exactly s st place = (
+  λ r. ap numbered (refused s st place r),
+  λ n e. refusal-of s st place (numbered-back (readMessage s) st place n e),
+)
+
+zero-accepted : (s : List ℕ) (a : Answer) → OfAnswer s a → numbered a .number ≡ 0 → (m : Message) × Acceptance s m
+zero-accepted s (answer.Accepted m) k z = (m, k)
+zero-accepted s (answer.Refused st place) r z = absurd (refusal-number s st place r z)
+
+pub zero-exactly : ZeroExactly
+unfolding ZeroExactly
+zero-exactly s = (zero-accepted s (readMessage s) (of-read s), λ m k. ap numbered (accepts s m k))
 
 pub accepted-exactly : AcceptedExactly
 unfolding AcceptedExactly

@@ -20,10 +20,10 @@ use Rattle.message_reader.specs.declared.Answer.the-variants as answer
 use Rattle.message_reader.specs.declared.header.Size.{Size}
 use Rattle.message_reader.specs.declared.header.Size.the-variants as size
 use Rattle.message_reader.specs.Reading.{sizeIn, readSize, readMessage}
-use Rattle.message_reader.specs.Theorems.{Refusal, RefusedExactly, AcceptedExactly}
+use Rattle.message_reader.specs.Theorems.{Refusal, AcceptedExactly}
 use Rattle.message_reader.specs.Theorems as given
 use Rattle.message_reader.proofs.Laws.Header.{size-declared, size-refused, size-there, size-below, size-append, size-take}
-use Rattle.message_reader.proofs.Laws.Reading.{refused-exactly, accepted-exactly}
+use Rattle.message_reader.proofs.Laws.Reading.{refused, accepted-exactly}
 use Rattle.message_recording.specs.declared.line.Line.{Line}
 use Rattle.message_recording.specs.declared.line.Line.the-variants as line
 use Rattle.message_recording.specs.Cut.{bytesFor, neededOf}
@@ -136,9 +136,9 @@ end-exactly s = (λ e. subst (OfLine s) e (of-line s), λ e. rw e)
 
 -- fewer bytes than are needed are refused
 pub line-short : (s : List ℕ) → 0 < length s → length s < neededOf s → lineOf s ≡ line.Refused status.Truncated
-unfolding RefusedExactly neededOf
+unfolding neededOf
 line-short s h l =
-    line-of s h ∙ rw (take-all (neededOf s) s (omega arith), refused-exactly s status.Truncated 0 .1 (fewer (readSize s) refl l))
+    line-of s h ∙ rw (take-all (neededOf s) s (omega arith), refused s status.Truncated 0 (fewer (readSize s) refl l))
   where
     fewer : (x : Size) → readSize s ≡ x → length s < bytesFor x → Refusal s status.Truncated 0
     fewer (size.Declared n) e f = let d = size-declared s n e in given.before-size (d .four) (let a = d .size in let b = d .counted in omega arith) (let a = d .size in omega arith)

@@ -1,6 +1,6 @@
 -- Statuses and their numbers. Assumes nothing.
 use Prim.Native.Nat.{_≤_}
-use mathlib.Core.Path.{_≡_, refl}
+use mathlib.Core.Path.{_≡_, refl, sym, ap, _∙_}
 use native.Mathlib.Omega.{arith}
 use Rattle.wire.specs.declared.status.Status.{Status}
 use Rattle.wire.specs.declared.status.Status.the-variants as status
@@ -31,6 +31,10 @@ numbered status.NotWritable = (refl, omega arith)
 
 pub status-back : (st : Status) → statusFor (numberOf st) ≡ st
 status-back st = numbered st .0
+
+-- so the number tells the status
+pub same-status : (st other : Status) → numberOf st ≡ numberOf other → st ≡ other
+same-status st other e = sym (status-back st) ∙ ap statusFor e ∙ status-back other
 
 pub number-at-most : (st : Status) → numberOf st ≤ 18
 number-at-most st = numbered st .1
