@@ -2,6 +2,7 @@
 use Prim.Native.Nat.{ℕ, _+_, _≤_, _<_}
 use mathlib.Core.Path.{_≡_}
 use mathlib.Core.List.{List, [], _∷_, _++_}
+use mathlib.Core.Logic.{_⊎_}
 use lib.ListN.{length, take, drop}
 use Rattle.wire.specs.declared.status.Status.{Status}
 use Rattle.wire.specs.declared.status.Status.the-variants as status
@@ -12,7 +13,7 @@ use Rattle.wire.specs.Number.{Bytes}
 use Rattle.message_recording.specs.declared.line.Line.{Line}
 use Rattle.message_recording.specs.declared.line.Line.the-variants as line
 use Rattle.message_recording.specs.Cut.{neededOf}
-use Rattle.message_recording.specs.Line.{shown, lineOf}
+use Rattle.message_recording.specs.Line.{shown, lineNumber, lineOf}
 use Rattle.message_recording.specs.Listing.{linesAt, listing}
 
 -- ---- A file of any length, message by message
@@ -58,6 +59,20 @@ CutBySize =
     × (4 ≤ length s → sizeIn s < 4 → lineOf s ≡ line.Refused status.WrongSize)
     × (4 ≤ length s → length s < sizeIn s → lineOf s ≡ line.Refused status.Truncated)
     × (4 ≤ sizeIn s → sizeIn s ≤ length s → lineOf s ≡ shown (sizeIn s) (readMessage (take (sizeIn s) s)))
+
+-- 1 exactly where bytes are left, but fewer than the header's 4, or fewer than a Size that counts them.
+abbrev pub CutShort : List ℕ → Type 0
+CutShort s = (0 < length s) × ((length s < 4) ⊎ ((4 ≤ sizeIn s) × (length s < sizeIn s)))
+
+unfoldable pub OneExactly : Type 0
+OneExactly = (s : List ℕ) → (lineNumber (lineOf s) ≡ 1 → CutShort s) × (CutShort s → lineNumber (lineOf s) ≡ 1)
+
+-- 2 exactly where the header is there and its Size doesn't count it. So neither is given for a message that its Size has cut off.
+abbrev pub SizeBelow : List ℕ → Type 0
+SizeBelow s = (4 ≤ length s) × (sizeIn s < 4)
+
+unfoldable pub TwoExactly : Type 0
+TwoExactly = (s : List ℕ) → (lineNumber (lineOf s) ≡ 2 → SizeBelow s) × (SizeBelow s → lineNumber (lineOf s) ≡ 2)
 
 -- ---- The whole listing
 

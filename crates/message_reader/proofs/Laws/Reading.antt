@@ -184,13 +184,14 @@ of-tlvs s h (suc k) at m r a f =
     (λ e. after-tlv s at m k h r (ltb-true at (length s) e) f (of-tlvs s h k) (tlvAt s at m) (of-tlv s at m))
     (λ e. let b = ltb-false at (length s) e in let q : at ≡ length s = omega arith in of-last s m h (subst (λ (i : ℕ). Reached s i m) q r))
 
--- no refusal has the number 0
-fault-number : (s : List ℕ) (at : ℕ) (m : Message) (st : Status) → Fault s at m st → numberOf st ≡ 0 → ⊥
-fault-number s at m st (given.truncated h) e = omega arith
-fault-number s at m st (given.unexpected w r) e = omega arith
-fault-number s at m st (given.length-wrong w r l) e = omega arith
-fault-number s at m st (given.repeated w r l f) e = omega arith
+-- a fault of a TLV has a number from 5 on
+pub fault-number : (s : List ℕ) (at : ℕ) (m : Message) (st : Status) → Fault s at m st → 5 ≤ numberOf st
+fault-number s at m st (given.truncated h) = omega arith
+fault-number s at m st (given.unexpected w r) = omega arith
+fault-number s at m st (given.length-wrong w r l) = omega arith
+fault-number s at m st (given.repeated w r l f) = omega arith
 
+-- no refusal has the number 0
 pub refusal-number : (s : List ℕ) (st : Status) (place : ℕ) → Refusal s st place → numberOf st ≡ 0 → ⊥
 refusal-number s st place (given.before-header h) e = omega arith
 refusal-number s st place (given.before-size a b h) e = omega arith
@@ -198,7 +199,7 @@ refusal-number s st place (given.below-header a h) e = omega arith
 refusal-number s st place (given.left-over b h) e = omega arith
 refusal-number s st place (given.version a b h) e = omega arith
 refusal-number s st place (given.command a b v h) e = omega arith
-refusal-number s st place (given.tlv {m = m} h r a f) e = fault-number s place m st f e
+refusal-number s st place (given.tlv {m = m} h r a f) e = let n = fault-number s place m st f in omega arith
 refusal-number s st place (given.missing t h r n g) e = omega arith
 
 -- a header is right, or the message is refused with its status

@@ -106,7 +106,7 @@ pub positive : (n : ℕ) → (n ≡ 0 → ⊥) → 0 < n
 positive zero h = absurd (h refl)
 positive (suc n) h = omega arith
 
-nothing : (s : List ℕ) → length s ≡ 0 → s ≡ []
+pub nothing : (s : List ℕ) → length s ≡ 0 → s ≡ []
 nothing [] e = refl
 nothing (x ∷ s) e = absurd (let no : ⊥ = omega arith in no)
 
