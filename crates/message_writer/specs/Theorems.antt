@@ -6,7 +6,7 @@ use mathlib.Core.List.{List}
 use mathlib.Core.Bool.{true, false}
 use mathlib.Core.Logic.{_⊎_}
 use lib.ListN.{length, take, drop}
-use Rattle.wire.specs.declared.status.Status.{Status}
+use Rattle.wire.specs.Numbered.{refusedAs, numbered}
 use Rattle.wire.specs.declared.status.Status.the-variants as status
 use Rattle.message_rules.specs.declared.record.Message.{Message}
 use Rattle.message_reader.specs.declared.Answer.the-variants as answer
@@ -36,8 +36,8 @@ pub data Unwritable (n : ℕ) (m : Message) : Type 0 where
 -- "Any writer: 18, then 10": 18 exactly for a record that can't be written; else 10 exactly where the output is shorter than needed; else
 -- the number of bytes written. There is no other answer.
 pub record WriterAnswers (s : List ℕ) (m : Message) (out : List ℕ) : Type 0 where
-  pub unwritable : Unwritable (length s) m → writeAnswer s m out ≡ written.Refused status.NotWritable 0
-  pub no-room : (Unwritable (length s) m → ⊥) → length out < sizeTo m 8 → writeAnswer s m out ≡ written.Refused status.NoRoom 0
+  pub unwritable : Unwritable (length s) m → numbered (writeAnswer s m out) ≡ refusedAs status.NotWritable 0
+  pub no-room : (Unwritable (length s) m → ⊥) → length out < sizeTo m 8 → numbered (writeAnswer s m out) ≡ refusedAs status.NoRoom 0
   pub wrote : (Unwritable (length s) m → ⊥) → sizeTo m 8 ≤ length out → writeAnswer s m out ≡ written.Wrote (sizeTo m 8)
   pub one-of : Unwritable (length s) m ⊎ (Unwritable (length s) m → ⊥)
 
@@ -48,7 +48,7 @@ WrittenExactly = (s : List ℕ) (m : Message) (out : List ℕ) → WriterAnswers
 unfoldable pub RestKept : Type 0
 RestKept =
     (s : List ℕ) (m : Message) (out : List ℕ)
-    → ((st : Status) (place : ℕ) → writeAnswer s m out ≡ written.Refused st place → output s m out ≡ out)
+    → ((numbered (writeAnswer s m out) .number ≡ 0 → ⊥) → output s m out ≡ out)
     × ((n : ℕ) → writeAnswer s m out ≡ written.Wrote n → (length (output s m out) ≡ length out) × (drop n (output s m out) ≡ drop n out))
 
 -- ---- What is written reads back

@@ -11,10 +11,12 @@ use lib.ListN.{length, drop, length-append, length-drop}
 use lib.Seq.{drop-at}
 use Rattle.message_rules.specs.declared.record.Message.{Message}
 use Rattle.wire.specs.declared.written.Written.{Written}
+use Rattle.wire.specs.declared.written.Written.the-variants as written
+use Rattle.wire.specs.Numbered.{numbered}
 use Rattle.message_rules.specs.Rules.{roleOf, foreign, needed, lengthOk, knownCommand}
 use Rattle.wire.specs.Below.{allBelow}
 use Rattle.message_rules.specs.Record.{fieldOf, sizeTo}
-use Rattle.message_writer.specs.Writing.{fieldOk, writable, messageOf, outputAfter, output}
+use Rattle.message_writer.specs.Writing.{fieldOk, writable, messageOf, writeAnswer, outputAfter, output}
 use Rattle.message_writer.specs.Theorems.{Unwritable, WrittenExactly, RestKept}
 use Rattle.message_writer.specs.Theorems as given
 use Rattle.wire.proofs.Laws.Bool.{either, by-test, not-both}
@@ -77,16 +79,20 @@ pub written-exactly : WrittenExactly
 unfolding WrittenExactly
 written-exactly s m out =
     record {
-      unwritable = λ u. sym (not-writable s m out (unwritable s m u) .0);
-      no-room = λ f h. sym (no-room s m out (writable-else s m f) h .0);
+      unwritable = λ u. ap numbered (sym (not-writable s m out (unwritable s m u) .0));
+      no-room = λ f h. ap numbered (sym (no-room s m out (writable-else s m f) h .0));
       wrote = λ f h. sym (wrote s m out (writable-else s m f) h .0);
       one-of = ⊎-elim (λ w. inr (no-reason s m w)) (λ e. inl (reason (length s) m e)) (either (writable (length s) m));
     }
 
+refused-kept : (a : Written) (message out : List ℕ) → (numbered a .number ≡ 0 → ⊥) → outputAfter a message out ≡ out
+refused-kept (written.Wrote n) message out f = absurd (f refl)
+refused-kept (written.Refused st place) message out f = refl
+
 pub rest-kept : RestKept
 unfolding RestKept output
 rest-kept s m out = (
-  λ st place e. ap (λ (a : Written). outputAfter a (messageOf s m) out) e,
+  refused-kept (writeAnswer s m out) (messageOf s m) out,
   λ n e.
       let a = answer-wrote s m out n e in
       let l = message-length s m (a .0) in
