@@ -6,11 +6,13 @@ use Rattle.cursor_limits.specs.declared.value.Xor.the-variants as xor
 use Rattle.cursor_limits.specs.declared.value.Value.the-variants as value
 use Rattle.cursor_limits.specs.declared.value.Answer.the-variants as answer
 use Rattle.wire.specs.Below.{allBelow}
+use Rattle.wire.specs.Numbered.{acceptedAs}
+use Rattle.wire.specs.Numbered as writer
 use Rattle.text.specs.Range.{within}
 use Rattle.text.specs.Hex.{digitValue, isDigit, number, readDigits, digitOf, spellDigits}
 use Rattle.text.specs.Word.{lowered, sameLetter, spells}
-use Rattle.cursor_limits.specs.Reading.{answerNumber, notGrammar, readField, readLimits, readValue}
-use Rattle.cursor_limits.specs.Writing.{spellField, spellLimits, spelling, writtenNumber, writeAnswer}
+use Rattle.cursor_limits.specs.Reading.{numbered, notGrammar, readField, readLimits, readValue}
+use Rattle.cursor_limits.specs.Writing.{spellField, spellLimits, spelling, writeAnswer}
 
 -- `full 0100 0080 C351`
 abbrev pub line : List ℕ
@@ -71,13 +73,13 @@ unfolding within allBelow digitValue isDigit number readDigits lowered sameLette
 not-a-digit = refl
 
 -- the numbers: 16 for a text that is not of the grammar; 10 for `none` in three bytes, 0 in four
-pub not-grammar-is-16 : answerNumber notGrammar ≡ 16
+pub not-grammar-is-16 : numbered notGrammar ≡ record { number = 16; place = 0 }
 not-grammar-is-16 = refl
 
-pub short-is-10 : writtenNumber (writeAnswer value.NotSupported 3) ≡ 10
+pub short-is-10 : writer.numbered (writeAnswer value.NotSupported 3) ≡ record { number = 10; place = 0 }
 unfolding writeAnswer
 short-is-10 = refl
 
-pub enough-is-0 : writtenNumber (writeAnswer value.NotSupported 4) ≡ 0
+pub enough-is-0 : writer.numbered (writeAnswer value.NotSupported 4) ≡ acceptedAs
 unfolding writeAnswer
 enough-is-0 = refl

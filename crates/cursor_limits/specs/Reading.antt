@@ -5,7 +5,7 @@ use mathlib.Core.Bool.{cond}
 use lib.Dec.{eqb}
 use lib.ListN.{length, getD, take, drop}
 use Rattle.wire.specs.declared.status.Status.the-variants as status
-use Rattle.wire.specs.Status.{numberOf}
+use Rattle.wire.specs.Numbered.{Numbered, acceptedAs, refusedAs}
 use Rattle.wire.specs.Splice.{part}
 use Rattle.text.specs.declared.hex.Digits.{Digits}
 use Rattle.text.specs.declared.hex.Digits.the-variants as digits
@@ -20,13 +20,9 @@ use Rattle.text.specs.Hex.{readDigits}
 use Rattle.text.specs.Word.{spells}
 
 -- the paper's number of an answer, and the place of a refusal
-abbrev pub answerNumber : Answer → ℕ
-answerNumber (answer.Accepted v) = 0
-answerNumber (answer.Refused status place) = numberOf status
-
-abbrev pub answerPlace : Answer → ℕ
-answerPlace (answer.Accepted v) = 0
-answerPlace (answer.Refused status place) = place
+abbrev pub numbered : Answer → Numbered
+numbered (answer.Accepted v) = acceptedAs
+numbered (answer.Refused st place) = refusedAs st place
 
 -- the text is not of the grammar: 16, at place 0
 abbrev pub notGrammar : Answer

@@ -8,12 +8,15 @@ use Rattle.cursor_limits.specs.declared.value.Limits.{Limits}
 use Rattle.cursor_limits.specs.declared.value.Value.{Value}
 use Rattle.cursor_limits.specs.declared.value.Value.the-variants as value
 use Rattle.cursor_limits.specs.declared.value.Answer.the-variants as answer
+use Rattle.wire.specs.declared.status.Status.the-variants as status
 use Rattle.wire.specs.declared.written.Written.the-variants as written
+use Rattle.wire.specs.Numbered.{acceptedAs, refusedAs}
+use Rattle.wire.specs.Numbered as writer
 use Rattle.cursor_limits.specs.Grammar.{Means}
 use Rattle.wire.specs.Laid.{laid}
 use Rattle.text.specs.Word.{lowered, raised}
-use Rattle.cursor_limits.specs.Reading.{answerNumber, answerPlace, readValue}
-use Rattle.cursor_limits.specs.Writing.{spelling, writtenNumber, writtenPlace, writeAnswer}
+use Rattle.cursor_limits.specs.Reading.{numbered, readValue}
+use Rattle.cursor_limits.specs.Writing.{spelling, writeAnswer}
 
 -- The reader accepts exactly the strings of the grammar, each with its meaning.
 unfoldable pub AcceptsGrammar : Type 0
@@ -24,8 +27,8 @@ AcceptsGrammar =
 unfoldable pub RefusesTheRest : Type 0
 RefusesTheRest =
     (s : List ℕ)
-    → (((v : Value) → Means s v → ⊥) → (answerNumber (readValue s) ≡ 16) × (answerPlace (readValue s) ≡ 0))
-    × (answerNumber (readValue s) ≡ 16 → (v : Value) → Means s v → ⊥)
+    → (((v : Value) → Means s v → ⊥) → numbered (readValue s) ≡ refusedAs status.NotGrammar 0)
+    × (numbered (readValue s) .number ≡ 16 → (v : Value) → Means s v → ⊥)
 
 -- A string of the grammar has one meaning.
 unfoldable pub OneMeaning : Type 0
@@ -40,8 +43,8 @@ pub data Sized : Value → Type 0 where
 unfoldable pub TenIfShort : Type 0
 TenIfShort =
     (v : Value) (room : ℕ)
-    → (room < length (spelling v) → (writtenNumber (writeAnswer v room) ≡ 10) × (writtenPlace (writeAnswer v room) ≡ 0))
-    × (length (spelling v) ≤ room → writtenNumber (writeAnswer v room) ≡ 0)
+    → (room < length (spelling v) → writer.numbered (writeAnswer v room) ≡ refusedAs status.NoRoom 0)
+    × (length (spelling v) ≤ room → writer.numbered (writeAnswer v room) ≡ acceptedAs)
 
 -- What is written for a record reads back as the same record.
 unfoldable pub ReadsBack : Type 0

@@ -6,7 +6,6 @@ use mathlib.Core.Bool.{cond}
 use lib.Dec.{leb}
 use lib.ListN.{length}
 use Rattle.wire.specs.declared.status.Status.the-variants as status
-use Rattle.wire.specs.Status.{numberOf}
 use Rattle.cursor_limits.specs.declared.value.Xor.{Xor}
 use Rattle.cursor_limits.specs.declared.value.Xor.the-variants as xor
 use Rattle.cursor_limits.specs.declared.value.Limits.{Limits}
@@ -34,15 +33,6 @@ spellLimits l = spellXor (l .xor) ++ (spellField (l .width) ++ (spellField (l .h
 abbrev pub spelling : Value → List ℕ
 spelling value.NotSupported = noneWord
 spelling (value.Supported l) = spellLimits l
-
--- the paper's number of a writer's answer, and the place of a refusal
-abbrev pub writtenNumber : Written → ℕ
-writtenNumber (answer.Wrote n) = 0
-writtenNumber (answer.Refused status place) = numberOf status
-
-abbrev pub writtenPlace : Written → ℕ
-writtenPlace (answer.Wrote n) = 0
-writtenPlace (answer.Refused status place) = place
 
 -- the number of its bytes, or 10 where the output has fewer
 unfoldable pub writeAnswer : Value → ℕ → Written

@@ -29,7 +29,7 @@ use Rattle.text.specs.Range.{within}
 use Rattle.text.specs.Hex.{readDigits}
 use Rattle.wire.specs.Laid.{laid}
 use Rattle.text.specs.Word.{lowered, sameLetter, spells, raised}
-use Rattle.cursor_limits.specs.Reading.{answerNumber, answerPlace, notGrammar, readField, limitsOf, readLimits, readValue}
+use Rattle.cursor_limits.specs.Reading.{numbered, notGrammar, readField, limitsOf, readLimits, readValue}
 use Rattle.cursor_limits.specs.Writing.{spellXor, spellField, spellLimits, spelling, writeAnswer}
 use Rattle.cursor_limits.specs.Theorems.{AcceptsGrammar, RefusesTheRest, TenIfShort, OneMeaning, Sized, none-sized, limits-sized, ReadsBack, canonical, Canonical}
 use Rattle.wire.proofs.Laws.Bool.{impossible}
@@ -215,14 +215,14 @@ decided s = go (spells noneWord s) (eqb (length s) 19) (spells noneWord (take 4 
 pub refuses-the-rest : RefusesTheRest
 unfolding RefusesTheRest
 refuses-the-rest s = (
-  λ none. ⊎-elim (λ w. absurd (none (w .0) (read-means s (w .0) (w .1)))) (λ e. (ap answerNumber e, ap answerPlace e)) (decided s),
-  λ e v m. let f : answerNumber (readValue s) ≡ 0 = ap answerNumber (means-read m) in (let no : ⊥ = omega arith in no),
+  λ none. ⊎-elim (λ w. absurd (none (w .0) (read-means s (w .0) (w .1)))) (λ e. ap numbered e) (decided s),
+  λ e v m. let f : numbered (readValue s) .number ≡ 0 = ap (λ (a : Answer). numbered a .number) (means-read m) in (let no : ⊥ = omega arith in no),
 )
 
 pub ten-if-short : TenIfShort
 unfolding TenIfShort writeAnswer
 ten-if-short v room = (
-  λ l. (simp (lt-leb (length (spelling v)) room l), simp (lt-leb (length (spelling v)) room l)),
+  λ l. simp (lt-leb (length (spelling v)) room l),
   λ l. simp (le-leb (length (spelling v)) room l),
 )
 
