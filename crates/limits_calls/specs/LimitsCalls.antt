@@ -8,23 +8,19 @@ use lib.ListN.{length}
 use Rattle.wire.specs.declared.status.Status.the-variants as status
 use Rattle.cursor_limits.specs.declared.value.Answer.{Answer as ReaderAnswer}
 use Rattle.cursor_limits.specs.declared.value.Answer.the-variants as reader
-use Rattle.cursor_limits.specs.Reading.{readValue}
+use Rattle.cursor_limits.specs.Reading.{readValue, numbered}
 use Rattle.wire.specs.Laid.{laid}
 use Rattle.cursor_limits.specs.Writing.{spelling, writeAnswer}
 use Rattle.limits_layout.specs.LimitsLayout.{limitsBytes, limitsIn}
 use Rattle.host_answers.specs.declared.Answer.{Answer}
 use Rattle.host_answers.specs.declared.Written.{Written}
-use Rattle.host_answers.specs.Answers.{accepted, refused, short, notWritten, writtenOf}
+use Rattle.host_answers.specs.Answers.{answerAs, short, notWritten, writtenOf}
 
 -- ---- Reading
 
-abbrev pub answerOf : ReaderAnswer → Answer
-answerOf (reader.Accepted v) = accepted
-answerOf (reader.Refused st place) = refused st place
-
 -- 10 where the record is short, else what the reader answers
 unfoldable pub readAnswer : List ℕ → List ℕ → Answer
-readAnswer s xs = cond (ltb (length xs) 8) short (answerOf (readValue s))
+readAnswer s xs = cond (ltb (length xs) 8) short (answerAs (numbered (readValue s)))
 
 -- the record of an accepted value is laid; a refusal, and a short record, change nothing
 abbrev pub recordOf : ReaderAnswer → List ℕ → List ℕ

@@ -11,7 +11,7 @@ use Rattle.scan.specs.Bytes.{copied}
 use Rattle.message_reader.specs.declared.Answer.{Answer as ReaderAnswer}
 use Rattle.message_reader.specs.declared.Answer.the-variants as reader
 use Rattle.message_rules.specs.declared.accessors.SourceId.{SourceId}
-use Rattle.message_reader.specs.Reading.{readMessage}
+use Rattle.message_reader.specs.Reading.{readMessage, numbered}
 use Rattle.message_writer.specs.Writing.{writeAnswer, output}
 use Rattle.message_rules.specs.Accessors.{portOf, optionsOf, sourceOf}
 use Rattle.wire.specs.Laid.{laid}
@@ -20,17 +20,13 @@ use Rattle.host_answers.specs.declared.Answer.{Answer}
 use Rattle.host_answers.specs.declared.Number.{Number}
 use Rattle.host_answers.specs.declared.Written.{Written}
 use Rattle.host_answers.specs.declared.Yes.{Yes}
-use Rattle.host_answers.specs.Answers.{accepted, refused, short, notWritten, writtenOf, notAnswered}
+use Rattle.host_answers.specs.Answers.{answerAs, short, notWritten, writtenOf, notAnswered}
 
 -- ---- Reading
 
-abbrev pub answerOf : ReaderAnswer → Answer
-answerOf (reader.Accepted m) = accepted
-answerOf (reader.Refused st place) = refused st place
-
 -- 10 where the record is short, else what the reader answers
 unfoldable pub readAnswer : List ℕ → List ℕ → Answer
-readAnswer s xs = cond (ltb (length xs) 64) short (answerOf (readMessage s))
+readAnswer s xs = cond (ltb (length xs) 64) short (answerAs (numbered (readMessage s)))
 
 -- the record of an accepted message is laid; a refusal, and a short record, change nothing
 abbrev pub recordOf : ReaderAnswer → List ℕ → List ℕ

@@ -10,14 +10,14 @@ use lib.ListN.{length}
 use Rattle.wire.proofs.Laws.Laid.{laid-short}
 use Rattle.message_reader.specs.declared.Answer.{Answer}
 use Rattle.message_reader.specs.declared.Answer.the-variants as reader
-use Rattle.message_reader.specs.Reading.{readMessage}
+use Rattle.message_reader.specs.Reading.{readMessage, numbered}
 use Rattle.message_reader.specs.Values.{messageFrom, valuesAfter}
 use Rattle.message_reader.proofs.Laws.Answer.{command-small, number-accepted, number-refused}
 use Rattle.message_layout.specs.MessageLayout.{messageBytes}
 use Rattle.message_layout.proofs.Laws.MessageLayout.{length-message}
 use Rattle.host_answers.specs.declared.Answer as host
-use Rattle.host_answers.specs.Answers.{refused}
-use Rattle.message_calls.specs.MessageCalls.{answerOf, readAnswer, recordOf, readRecord}
+use Rattle.host_answers.specs.Answers.{answerAs, refused}
+use Rattle.message_calls.specs.MessageCalls.{readAnswer, recordOf, readRecord}
 use Rattle.message_calls.proofs.read.Statement.{statement}
 use Rattle.message_calls.proofs.read.Tie as tie
 
@@ -43,9 +43,9 @@ returns-2 c =
     let a = i .before .before .before .args in
     let r = number-refused (readMessage (now (a .bytes))) (λ z. c .if2 .taken (ap (λ (n : ℕ). n % 256) e ∙ z)) in
     let n = l .locate .result in
-    let numbered : _≡_ {A = host.Answer} (record { status = n % 256; place = n / 256 }) (refused (r .st) (r .place))
+    let refusal : _≡_ {A = host.Answer} (record { status = n % 256; place = n / 256 }) (refused (r .st) (r .place))
     = same-answer (ap (λ (k : ℕ). k % 256) e ∙ r .low) (ap (λ (k : ℕ). k / 256) e ∙ r .up) in
-    simp (le-ltb _ 64 (i .if1 .left)) (numbered ∙ ap answerOf (sym (r .is)), ap (λ (b : Answer). recordOf b (now (a .«record»))) (sym (r .is)))
+    simp (le-ltb _ 64 (i .if1 .left)) (refusal ∙ ap (λ (b : Answer). answerAs (numbered b)) (sym (r .is)), ap (λ (b : Answer). recordOf b (now (a .«record»))) (sym (r .is)))
 
 cast-message-from : tie.Need-cast-message-from
 cast-message-from c =
