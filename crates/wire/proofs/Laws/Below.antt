@@ -2,13 +2,16 @@
 use Prim.Native.Nat.{ℕ, zero, suc, _+_, _<_}
 use mathlib.Core.Path.{_≡_, refl, sym, _∙_, subst}
 use mathlib.Core.Bool.{Bool, true, false, _&&_}
+use mathlib.Core.List.{List}
 use mathlib.Core.Logic.{⊎-elim}
-use borrow.Author.Tests.{eqb-true}
-use lib.Dec.{eqb}
+use borrow.Author.Tests.{eqb-true, ltb-true}
+use lib.Dec.{eqb, ltb}
+use lib.ListN.{length, getD, List·getD-eq-default}
 use native.Mathlib.Decide.{decLt}
 use native.Mathlib.Numerals.{add-one}
 use native.Mathlib.Omega.{arith}
 use Rattle.wire.specs.Below.{allBelow}
+use Rattle.wire.specs.Number.{Bytes}
 use Rattle.wire.proofs.Laws.Bool.{either, not-both, and-false}
 
 module _ (p : ℕ → Bool) where
@@ -62,3 +65,10 @@ module _ (p : ℕ → Bool) where
 -- a rule computed at every number below n
 pub computed : (n : ℕ) (f g : ℕ → ℕ) → allBelow n (λ k. eqb (f k) (g k)) ≡ true → (k : ℕ) → k < n → f k ≡ g k
 computed n f g e k l = eqb-true (f k) (g k) (below-all (λ i. eqb (f i) (g i)) n e k l)
+
+-- every element of a list is a byte, computed
+pub bytes-computed : (s : List ℕ) → allBelow (length s) (λ k. ltb (getD s k 0) 256) ≡ true → Bytes s
+bytes-computed s e k = elim (decLt k (length s)) [
+  | yes l ↦ ltb-true (getD s k 0) 256 (below-all (λ i. ltb (getD s i 0) 256) (length s) e k l)
+  | no l ↦ let past = List·getD-eq-default s 0 {n = k} (omega arith) in omega arith
+]
