@@ -1,3 +1,4 @@
 pub mod Rules
 pub mod Record
 pub mod Accessors
+pub mod Examples

@@ -16,7 +16,7 @@ use Rattle.message_reader.specs.declared.Answer.{Answer}
 use Rattle.message_reader.specs.declared.Answer.the-variants as read
 use Rattle.message_rules.specs.Rules.{rolesOf, roleOf, lengthsOf, lengthIn, lengthOk, knownCommand}
 use Rattle.message_rules.specs.Record.{fieldOf, withField, emptyOf}
-use Rattle.message_reader.specs.Reading.{headerStatus, hasNeeded, isComplete, tlvAt, lastOf, tlvsFrom, readMessage}
+use Rattle.message_reader.specs.Reading.{headerStatus, hasNeeded, isComplete, tlvAt, lastOf, tlvsFrom, readMessage, numbered}
 use Rattle.message_rules.specs.Accessors.{portOf, noSource}
 use Rattle.session_table.specs.declared.record.State.{State}
 use Rattle.session_table.specs.declared.record.State.the-variants as state
@@ -104,10 +104,6 @@ isPort : List ℕ → ℕ → Answer → Bool
 isPort s n (read.Accepted m) = eqb (portOf s m) n
 isPort s n (read.Refused st place) = false
 
-isRefused : ℕ → ℕ → Answer → Bool
-isRefused n at (read.Accepted m) = false
-isRefused n at (read.Refused st place) = eqb (numberOf st) n && eqb place at
-
 same : Bool → Bool → Bool
 same true b = b
 same false b = not b
@@ -140,7 +136,7 @@ closesIt r = eqb (numberOf (r .answer .status)) 0 && isClosed (r .session .state
 -- whether the definitions give what the example says
 pub holds : Example → Bool
 holds (port s n) = isPort s n (readMessage s)
-holds (refused s n place) = isRefused n place (readMessage s)
+holds (refused s n place) = eqb (numbered (readMessage s) .number) n && eqb (numbered (readMessage s) .place) place
 holds (newer last new b) = same (isNewer true last new) b
 holds (position packet x y) = isPosition x y (readPosition packet)
 holds (fragment packet n) = eqb (numberOf (fragmentStatus packet)) n
@@ -154,7 +150,7 @@ allHold (x ∷ xs) = holds x && allHold xs
 -- the twelve, each tested by what the definitions compute
 pub examples-hold : allHold examples ≡ true
 unfolding
-    examples afterSize withoutPort rtp ofTotal8 isPort isRefused same sameInteger isPosition isNumber isClosed closesIt holds allHold
+    examples afterSize withoutPort rtp ofTotal8 isPort same sameInteger isPosition isNumber isClosed closesIt holds allHold
     allBelow numberIn distance isNewer signed
     rolesOf roleOf lengthsOf lengthIn lengthOk knownCommand fieldOf withField emptyOf headerStatus hasNeeded isComplete tlvAt lastOf tlvsFrom readMessage portOf
     firstOf unusedZero rtpHolds frameChecks positionChecks positionAt readPosition
