@@ -1,7 +1,7 @@
 -- The calls of the cursor stream: what each answers, and what every lent byte then is. Assumes nothing.
 use Prim.Native.Nat.{ℕ}
 use mathlib.Core.Path.{_≡_}
-use mathlib.Core.Bool.{Bool, true, false, cond, _&&_}
+use mathlib.Core.Bool.{Bool, cond, _&&_}
 use mathlib.Core.List.{List}
 use lib.Dec.{leb}
 use lib.ListN.{length}
@@ -9,10 +9,9 @@ use Rattle.wire.specs.declared.status.Status.the-variants as status
 use Rattle.cursor_pointer.specs.declared.Pointer.{Pointer}
 use Rattle.cursor_pointer.specs.declared.PointerAnswer.{PointerAnswer}
 use Rattle.cursor_pointer.specs.declared.PointerAnswer.the-variants as position
-use Rattle.cursor_pointer.specs.Pointer.{positioned}
+use Rattle.cursor_pointer.specs.Pointer.{positioned, numbered as positionNumber}
 use Rattle.cursor_picture.specs.declared.completeness.CompleteAnswer.{CompleteAnswer}
-use Rattle.cursor_picture.specs.declared.completeness.CompleteAnswer.the-variants as complete
-use Rattle.cursor_picture.specs.Completeness.{completeness}
+use Rattle.cursor_picture.specs.Completeness.{completeness, numbered as completeNumber, isYes}
 use Rattle.cursor_store.specs.declared.storing.StoreAnswer.{StoreAnswer}
 use Rattle.cursor_store.specs.declared.storing.StoreAnswer.the-variants as store
 use Rattle.cursor_store.specs.Assembling.{Outcome}
@@ -22,7 +21,7 @@ use Rattle.cursor_layout.specs.PointerLayout.{pointerLength, pointerBytes, poin
 use Rattle.cursor_layout.specs.PictureLayout.{pictureLength, pictureOf, pictureLeft}
 use Rattle.host_answers.specs.declared.Answer.{Answer}
 use Rattle.host_answers.specs.declared.Yes.{Yes}
-use Rattle.host_answers.specs.Answers.{accepted, refused, short, notAnswered}
+use Rattle.host_answers.specs.Answers.{answerAs, accepted, refused, short, notAnswered}
 
 -- The call for positions.
 
@@ -35,9 +34,12 @@ abbrev pub afterPosition : Answer → List ℕ → PositionOutcome
 afterPosition r ps = record { answer = r; pointer = ps }
 
 -- the pointer as the packet sets it goes into the record ps; a refusal changes nothing
+abbrev pub pointerSet : PointerAnswer → List ℕ → List ℕ
+pointerSet (position.Accepted p) ps = laid (pointerBytes p) ps
+pointerSet (position.Refused s place) ps = ps
+
 abbrev pub positionAnswered : PointerAnswer → List ℕ → PositionOutcome
-positionAnswered (position.Accepted p) ps = afterPosition accepted (laid (pointerBytes p) ps)
-positionAnswered (position.Refused s place) ps = afterPosition (refused s place) ps
+positionAnswered a ps = afterPosition (answerAs (positionNumber a)) (pointerSet a ps)
 
 unfoldable pub cursorPosition : List ℕ → List ℕ → PositionOutcome
 cursorPosition ps packet =
@@ -83,9 +85,7 @@ cursorStore ps qs packet image marks =
 -- The completeness question: a refusal by its number.
 
 abbrev pub yesOrNo : CompleteAnswer → Yes
-yesOrNo complete.Yes = record { status = 0; yes = true }
-yesOrNo complete.No = record { status = 0; yes = false }
-yesOrNo (complete.Refused s place) = notAnswered s
+yesOrNo a = record { status = completeNumber a .number; yes = isYes a }
 
 unfoldable pub cursorComplete : List ℕ → List ℕ → List ℕ → Yes
 cursorComplete qs image marks =

@@ -8,6 +8,7 @@ use lib.IntN.{ℤ, pos, negsuc}
 use lib.ListN.{length, drop}
 use Rattle.wire.specs.Number.{number}
 use Rattle.wire.specs.Signed.{signed}
+use Rattle.wire.specs.Numbered.{Numbered, acceptedAs, refusedAs}
 use Rattle.wire.specs.declared.status.Status.{Status}
 use Rattle.wire.specs.declared.status.Status.the-variants as status
 use Rattle.cursor_fragment.specs.declared.Fragment.{Fragment}
@@ -86,6 +87,16 @@ dataOf p = imageData (isStart p) p
 
 unfoldable pub readFragment : List ℕ → FragmentAnswer
 readFragment p = cond (accepted (fragmentStatus p)) (Accepted (fragmentOf p)) (Refused (fragmentStatus p) 0)
+
+-- the paper's number of an answer, and its place
+abbrev pub numbered : FragmentAnswer → Numbered
+numbered (Accepted f) = acceptedAs
+numbered (Refused s place) = refusedAs s place
+
+-- The number of an answer is that of the first check that refuses, 0 where none does; its place is 0. The proof stands in
+-- proofs/Laws/Fragment.antt.
+abbrev pub NumberByChecks : Type 0
+NumberByChecks = (p : List ℕ) → numbered (readFragment p) ≡ refusedAs (fragmentStatus p) 0
 
 -- Of an accepted packet the fragment's offset is the number that stands in it, and the data lie inside the total. The proofs stand in
 -- proofs/Laws/Fragment.antt.

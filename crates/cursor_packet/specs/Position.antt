@@ -1,10 +1,12 @@
 -- Position packets (003 section 2.2.2; 01, "Cursor packets": "Type 1, position: size 7; x and y, 16 bits signed"). Assumes nothing.
 use Prim.Native.Nat.{ℕ}
+use mathlib.Core.Path.{_≡_}
 use mathlib.Core.Bool.{cond}
 use mathlib.Core.List.{List}
 use lib.Dec.{eqb}
 use Rattle.wire.specs.Number.{number}
 use Rattle.wire.specs.Signed.{signed}
+use Rattle.wire.specs.Numbered.{Numbered, acceptedAs, refusedAs}
 use Rattle.cursor_packet.specs.declared.position.Position.{Position}
 use Rattle.cursor_packet.specs.declared.position.PositionAnswer.{PositionAnswer}
 use Rattle.cursor_packet.specs.declared.position.PositionAnswer.the-variants.{Accepted, Refused}
@@ -24,3 +26,13 @@ positionOf p = positionAt 15 17 p
 
 unfoldable pub readPosition : List ℕ → PositionAnswer
 readPosition p = cond (accepted (firstOf (positionChecks p))) (Accepted (positionOf p)) (Refused (firstOf (positionChecks p)) 0)
+
+-- the paper's number of an answer, and its place
+abbrev pub numbered : PositionAnswer → Numbered
+numbered (Accepted x) = acceptedAs
+numbered (Refused s place) = refusedAs s place
+
+-- The number of an answer is that of the first check that refuses, 0 where none does; its place is 0. The proof stands in
+-- proofs/Laws/Position.antt.
+abbrev pub NumberByChecks : Type 0
+NumberByChecks = (p : List ℕ) → numbered (readPosition p) ≡ refusedAs (firstOf (positionChecks p)) 0

@@ -1,11 +1,13 @@
 -- The completeness question (01, "Cursor packets": "The completeness question is 17 first; with no picture open its answer is no"; "Total
 -- 0 is allowed, and is complete once a start is seen"). Assumes nothing.
 use Prim.Native.Nat.{ℕ}
-use mathlib.Core.Bool.{Bool, cond, _&&_}
+use mathlib.Core.Path.{_≡_}
+use mathlib.Core.Bool.{Bool, true, false, cond, _&&_}
 use mathlib.Core.List.{List}
 use lib.Dec.{eqb}
 use lib.ListN.{length, take}
 use Rattle.wire.specs.declared.status.Status.the-variants as status
+use Rattle.wire.specs.Numbered.{Numbered, acceptedAs, refusedAs}
 use Rattle.scan.specs.Empty.{firstEmpty}
 use Rattle.cursor_picture.specs.declared.Picture.{Picture}
 use Rattle.cursor_picture.specs.declared.completeness.CompleteAnswer.{CompleteAnswer}
@@ -24,3 +26,21 @@ allFilled marks total = eqb (firstEmptyOf marks total) total
 unfoldable pub completeness : Picture → ℕ → List ℕ → CompleteAnswer
 completeness q image marks =
     cond (held q image (length marks)) (cond (q .opened && (q .seen && allFilled marks (q .total))) Yes No) (Refused status.ImageNotHeld 0)
+
+-- the paper's number of an answer, and its place
+abbrev pub numbered : CompleteAnswer → Numbered
+numbered Yes = acceptedAs
+numbered No = acceptedAs
+numbered (Refused s place) = refusedAs s place
+
+-- yes or no; a refusal is no yes
+abbrev pub isYes : CompleteAnswer → Bool
+isYes Yes = true
+isYes No = false
+isYes (Refused s place) = false
+
+-- The question is 17 exactly where the opened picture is not held, and else answered. The proof stands in proofs/Laws/Completeness.antt.
+abbrev pub NumberByHeld : Type 0
+NumberByHeld =
+    (q : Picture) (image : ℕ) (marks : List ℕ)
+    → numbered (completeness q image marks) ≡ cond (held q image (length marks)) acceptedAs (refusedAs status.ImageNotHeld 0)

@@ -5,6 +5,7 @@ use mathlib.Core.Path.{_≡_}
 use mathlib.Core.Bool.{Bool, true, false, not, cond}
 use mathlib.Core.List.{List, [], _∷_, _++_}
 use lib.IntN.{ℤ, pos}
+use Rattle.wire.specs.Numbered.{Numbered, acceptedAs, refusedAs}
 use Rattle.wire.specs.Sequence.{isNewer}
 use Rattle.wire.specs.declared.status.Status.{Status}
 use Rattle.wire.specs.declared.status.Status.the-variants as status
@@ -45,6 +46,16 @@ movedBy p packet =
 
 unfoldable pub positioned : Pointer → List ℕ → PointerAnswer
 positioned p packet = cond (accepted (positionStatus p packet)) (Accepted (positionedTo p packet)) (Refused (positionStatus p packet) 0)
+
+-- the paper's number of an answer, and its place
+abbrev pub numbered : PointerAnswer → Numbered
+numbered (Accepted p) = acceptedAs
+numbered (Refused s place) = refusedAs s place
+
+-- The number of an answer is that of the first check that refuses, 0 where none does; its place is 0. The proof stands in
+-- proofs/Laws/Pointer.antt.
+abbrev pub NumberByChecks : Type 0
+NumberByChecks = (p : Pointer) (packet : List ℕ) → numbered (positioned p packet) ≡ refusedAs (positionStatus p packet) 0
 
 -- Sequence numbers go on from 65,535 to 0: there the pointer moves. The proof stands in proofs/Laws/Pointer.antt.
 unfoldable pub WrapMoves : Type 0

@@ -15,7 +15,7 @@ use Rattle.cursor_picture.specs.Completeness.{completeness}
 use Rattle.cursor_store.specs.declared.storing.StoreAnswer.{StoreAnswer}
 use Rattle.cursor_store.specs.declared.storing.StoreAnswer.the-variants.{Accepted, Refused}
 use Rattle.cursor_store.specs.Judging.{ofOpened}
-use Rattle.cursor_store.specs.Assembling.{Outcome}
+use Rattle.cursor_store.specs.Assembling.{storeStatus, Outcome}
 use Rattle.cursor_store.specs.Storing.{stored}
 use Rattle.cursor_store.specs.Receiver.{Receiver, covers}
 
@@ -61,6 +61,11 @@ byValue = record {
 }
 
 -- The proofs of these laws stand in proofs/Laws/Calls.antt.
+
+-- the number of an answer is that of the first check that refuses, 0 where none does; its place is 0
+abbrev pub NumberByChecks : Type 0
+NumberByChecks =
+    (s : State) (packet : List ℕ) → numbered (answered s packet .answer) ≡ refusedAs (storeStatus (s .picture) packet (s .image) (s .marks)) 0
 
 -- a refusal changes nothing
 unfoldable pub RefusalKeeps : Type 0

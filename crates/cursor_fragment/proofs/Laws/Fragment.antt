@@ -15,8 +15,11 @@ use Rattle.wire.specs.declared.status.Status.{Status}
 use Rattle.wire.specs.declared.status.Status.the-variants as status
 use Rattle.wire.specs.Checks.{refuse, firstOf, accepted, refusing}
 use Rattle.cursor_packet.specs.Frame.{frameChecks}
-use Rattle.cursor_fragment.specs.Fragment.{isStart, headerLength, imageData, offsetBits, offsetOf, placeOf, outside, isOutside, fragmentFrame, fragmentChecks, fragmentAs, fragmentOf, fragmentStatus, dataOf, OffsetKept, DataInside}
-use Rattle.wire.proofs.Laws.Checks.{first-append}
+use Rattle.cursor_fragment.specs.Fragment.{isStart, headerLength, imageData, offsetBits, offsetOf, placeOf, outside, isOutside, fragmentFrame, fragmentChecks, fragmentAs, fragmentOf, fragmentStatus, dataOf, readFragment, numbered, NumberByChecks, OffsetKept, DataInside}
+use Rattle.cursor_fragment.specs.declared.FragmentAnswer.{FragmentAnswer}
+use Rattle.wire.specs.Numbered.{refusedAs}
+use Rattle.wire.proofs.Laws.Bool.{by-test}
+use Rattle.wire.proofs.Laws.Checks.{first-append, accepted-as}
 
 -- more data than the total
 pub outside-large : (z : ℤ) (n t : ℕ) → t < n → outside z n t ≡ true
@@ -111,3 +114,9 @@ header-small false = omega arith
 pub starts-is : (p : List ℕ) → fragmentOf p .starts ≡ isStart p
 unfolding fragmentAs
 starts-is p = refl
+
+pub number-by-checks : NumberByChecks
+unfolding readFragment
+number-by-checks p =
+    let st = fragmentStatus p in
+    by-test (λ (a : FragmentAnswer). numbered a ≡ refusedAs st 0) (accepted st) _ _ (accepted-as st) (λ e. refl)

@@ -8,12 +8,15 @@ use Rattle.wire.specs.declared.status.Status.{Status}
 use Rattle.wire.specs.declared.status.Status.the-variants as status
 use Rattle.wire.specs.Checks.{refuse, firstOf, accepted}
 use Rattle.cursor_packet.specs.Position.{positionChecks, positionOf}
-use Rattle.wire.proofs.Laws.Checks.{first-append}
+use Rattle.wire.specs.Numbered.{refusedAs}
+use Rattle.wire.proofs.Laws.Bool.{by-test}
+use Rattle.wire.proofs.Laws.Checks.{first-append, accepted-as}
 use Rattle.cursor_packet.proofs.Laws.Position.{checks-refuse}
 use Rattle.cursor_pointer.specs.declared.Pointer.{Pointer}
 use Rattle.cursor_pointer.specs.declared.Positioned.{Positioned}
+use Rattle.cursor_pointer.specs.declared.PointerAnswer.{PointerAnswer}
 use Rattle.cursor_pointer.specs.declared.PointerAnswer.the-variants.{Accepted, Refused}
-use Rattle.cursor_pointer.specs.Pointer.{pointerMoves, movedTo, positionStatus, positionedTo, movedBy, positioned, WrapMoves}
+use Rattle.cursor_pointer.specs.Pointer.{pointerMoves, movedTo, positionStatus, positionedTo, movedBy, positioned, numbered, NumberByChecks, WrapMoves}
 
 pub position-status
     : (p : Pointer) (packet : List ℕ)
@@ -64,3 +67,9 @@ wrap-newer false = refl
 pub wrap-moves : WrapMoves
 unfolding WrapMoves movedTo
 wrap-moves p x y e = rw (e, wrap-newer (p .known))
+
+pub number-by-checks : NumberByChecks
+unfolding positioned
+number-by-checks p packet =
+    let st = positionStatus p packet in
+    by-test (λ (a : PointerAnswer). numbered a ≡ refusedAs st 0) (accepted st) _ _ (accepted-as st) (λ e. refl)

@@ -11,16 +11,18 @@ use Rattle.wire.specs.Splice.{splice}
 use Rattle.wire.specs.declared.status.Status.{Status}
 use Rattle.wire.proofs.Laws.Splice.{length-splice, after-part, getD-splice}
 use Rattle.wire.specs.Checks.{firstOf, accepted}
+use Rattle.wire.specs.Numbered.{refusedAs}
+use Rattle.wire.proofs.Laws.Checks.{accepted-as}
 use Rattle.cursor_fragment.specs.Fragment.{fragmentOf, dataOf, DataInside}
 use Rattle.cursor_fragment.specs.declared.Fragment.{Fragment}
 use Rattle.cursor_fragment.proofs.Laws.Fragment.{data-inside}
 use Rattle.cursor_picture.specs.declared.Picture.{Picture}
 use Rattle.cursor_picture.proofs.Laws.Picture.{room-says}
 use Rattle.cursor_store.specs.Judging.{ofOpened, opens, judging}
-use Rattle.cursor_store.specs.Assembling.{storeStatus, openedBy, openedFor, clearedFor, imageAfter, marksAfter, withStart, pictureAfter}
-use Rattle.cursor_store.specs.Storing.{pointerAfter}
+use Rattle.cursor_store.specs.Assembling.{storeStatus, openedBy, openedFor, clearedFor, imageAfter, marksAfter, withStart, pictureAfter, assembledAs, assembled}
+use Rattle.cursor_store.specs.Storing.{pointerAfter, stored}
 use Rattle.cursor_store.specs.Receiver.{covers}
-use Rattle.cursor_store.specs.Calls.{State, isAccepted, answered, next, RefusalKeeps, OutsideKept, FormerStaysClosed}
+use Rattle.cursor_store.specs.Calls.{State, numbered, isAccepted, answered, next, NumberByChecks, RefusalKeeps, OutsideKept, FormerStaysClosed}
 use Rattle.cursor_store.proofs.Laws.Judging.{judged-room, judged-late}
 use Rattle.cursor_store.proofs.Laws.Assembling.{store-passed}
 use Rattle.cursor_store.proofs.Laws.Storing.{stored-refused, stored-accepted}
@@ -42,6 +44,14 @@ module _ (s : State) (packet : List ℕ) where
       go : (b : Bool) → accepted statusOf ≡ b → b ≡ isAccepted (answered s packet .answer)
       go true e = sym (is-accepted e)
       go false e = sym (not-accepted e)
+
+pub number-by-checks : NumberByChecks
+unfolding stored assembled assembledAs
+number-by-checks s packet = go (accepted (statusOf s packet)) refl
+  where
+    go : (b : Bool) → accepted (statusOf s packet) ≡ b → numbered (answered s packet .answer) ≡ refusedAs (statusOf s packet) 0
+    go true e = simp e (accepted-as (statusOf s packet) e)
+    go false e = simp e
 
 pub refusal-keeps : RefusalKeeps
 unfolding RefusalKeeps next

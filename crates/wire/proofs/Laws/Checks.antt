@@ -1,11 +1,14 @@
 -- Laws of orders of checks: the first list decides where it refuses, else the second. Assumes nothing.
-use mathlib.Core.Path.{_≡_, refl}
+use Prim.Native.Nat.{ℕ}
+use mathlib.Core.Path.{_≡_, refl, sym, ap}
 use mathlib.Core.Bool.{Bool, true, false, not, cond}
 use mathlib.Core.List.{List, [], _∷_, _++_}
-use borrow.Author.Tests.{not-true}
+use borrow.Author.Tests.{not-true, eqb-true}
 use Rattle.wire.specs.declared.status.Status.{Status}
 use Rattle.wire.specs.declared.status.Status.the-variants as status
 use Rattle.wire.proofs.Laws.Bool.{both, by-test}
+use Rattle.wire.specs.Numbered.{Numbered, acceptedAs, refusedAs}
+use Rattle.wire.specs.Status.{numberOf}
 use Rattle.wire.specs.Checks.{Check, refuse, firstOf, accepted, refusing}
 
 pub first-append
@@ -20,6 +23,13 @@ first-append (refuse s b ∷ cs) ds r =
         → cond b s (firstOf (cs ++ ds)) ≡ cond (accepted (cond b s (firstOf cs))) (firstOf ds) (cond b s (firstOf cs))
     go true e f = rw e
     go false e f = f
+
+-- a status that accepts has number 0
+pub accepted-as : (st : Status) → accepted st ≡ true → acceptedAs ≡ refusedAs st 0
+accepted-as st e = ap at (sym (eqb-true (numberOf st) 0 e))
+  where
+    at : ℕ → Numbered
+    at n = record { number = n; place = 0 }
 
 -- what holds of a check's refusal where its condition holds, and of the checks after it where it doesn't, holds of the first refusal
 pub by-check
