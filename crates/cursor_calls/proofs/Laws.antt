@@ -1,2 +1,3 @@
 pub mod CursorCalls
+pub mod Examples
 pub mod Records

@@ -98,10 +98,10 @@ forwards = fragment (start 30 1) ∷ other [] ∷ fragment (middle 31) ∷ fragm
 abbrev pub backwards : List Call
 backwards = fragment (last 7) ∷ fragment (start 39 1) ∷ other (start 41 5) ∷ fragment (middle 2) ∷ fragment (start 39 1) ∷ []
 
-unfoldable pub PremisesMet : Type 0
+abbrev pub PremisesMet : Type 0
 PremisesMet = Given byValue whole opened forwards × Given byValue whole opened backwards × SameFragments forwards backwards
 
-unfoldable pub SameFromBoth : Type 0
+abbrev pub SameFromBoth : Type 0
 SameFromBoth = SameEnd byValue (run byValue opened forwards) (run byValue opened backwards)
 
 -- what both leave, computed

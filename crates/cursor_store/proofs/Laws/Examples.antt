@@ -82,7 +82,6 @@ same-fragments = (
 )
 
 pub premises-met : PremisesMet
-unfolding PremisesMet
 premises-met = (
   record { lent = tt; opened = is-opened; taken = forwards-taken; agreeing = forwards-agree },
   record { lent = tt; opened = is-opened; taken = backwards-taken; agreeing = backwards-agree },
@@ -90,5 +89,4 @@ premises-met = (
 )
 
 pub same-from-both : SameFromBoth
-unfolding SameFromBoth PremisesMet
 same-from-both = let p = premises-met in demand-three whole opened forwards (p .0) .same backwards (p .1) (p .2)
