@@ -7,13 +7,13 @@ use lib.IntN.{pos, negsuc}
 use Rattle.wire.specs.Number.{numberIn}
 use Rattle.wire.specs.Signed.{signed}
 use Rattle.wire.specs.declared.status.Status.the-variants as status
-use Rattle.wire.specs.Checks.{firstOf}
+use Rattle.wire.specs.Checks.{firstOf, accepted}
 use Rattle.cursor_packet.specs.Rtp.{unusedZero, rtpHolds}
 use Rattle.cursor_packet.specs.Frame.{frameChecks}
 use Rattle.cursor_packet.specs.Position.{positionAt}
 use Rattle.cursor_packet.specs.Examples.{rtp}
 use Rattle.cursor_fragment.specs.declared.FragmentAnswer.the-variants as fragment
-use Rattle.cursor_fragment.specs.Fragment.{takesType, headerLength, imageData, offsetBits, placeOf, outside, fragmentFrame, fragmentChecks, fragmentAs, fragmentStatus, dataOf, readFragment}
+use Rattle.cursor_fragment.specs.Fragment.{takesType, headerLength, imageData, offsetBits, placeOf, outside, fragmentFrame, fragmentChecks, fragmentAs, fragmentOf, fragmentStatus, dataOf, readFragment}
 use Rattle.cursor_fragment.specs.Start.{startOf, startIn, startPosition}
 
 -- P10: total 8: offset 8 with no data fits; offset 7 with two bytes is 9; offset FFFFFFFF hex is 9
@@ -63,3 +63,16 @@ pub in-order
     × (fragmentStatus (rtp 5 ++ (3 ∷ 0 ∷ 13 ∷ [])) ≡ status.Truncated)
 unfolding fragmentFrame fragmentChecks firstOf frameChecks rtpHolds unusedZero numberIn signed takesType headerLength imageData offsetBits outside
 in-order = (refl, refl, refl, refl, refl)
+
+-- The premises of the theorems are met.
+
+-- OffsetKept: an accepted continuation at offset 7 of 8
+-- DataInside: the same
+pub offset-kept
+    : (accepted (fragmentStatus (eight 14 (0 ∷ 0 ∷ 0 ∷ 7 ∷ 65 ∷ []))) ≡ true)
+    × (fragmentOf (eight 14 (0 ∷ 0 ∷ 0 ∷ 7 ∷ 65 ∷ [])) .offset ≡ 7)
+    × (dataOf (eight 14 (0 ∷ 0 ∷ 0 ∷ 7 ∷ 65 ∷ [])) ≡ 65 ∷ [])
+unfolding fragmentFrame fragmentChecks firstOf frameChecks rtpHolds unusedZero numberIn signed takesType headerLength imageData offsetBits outside fragmentAs placeOf
+offset-kept = (refl, refl, refl)
+
+-- Without a premise: NumberByChecks.

@@ -28,3 +28,5 @@ pub in-order
     × (readPosition (rtp 5 ++ (1 ∷ 0 ∷ 8 ∷ [])) ≡ position.Refused status.WrongSize 0)
 unfolding readPosition positionChecks positionAt firstOf frameChecks rtpHolds unusedZero numberIn signed
 in-order = (refl, refl)
+
+-- Without a premise: NumberByChecks.

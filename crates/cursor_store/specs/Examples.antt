@@ -1,9 +1,10 @@
 -- Small examples of the definitions of this crate, `cursor_pointer` and `cursor_picture`, P9 and P10 of 01, "Proved table of small examples", among them.
 -- Those that end in `refl` are computed here; the proofs of `PremisesMet` and `SameFromBoth` stand in proofs/Laws/Examples.antt.
-use Prim.Native.Nat.{ℕ}
+use Prim.Native.Nat.{ℕ, _≤_}
 use mathlib.Core.Path.{_≡_, refl}
 use mathlib.Core.Bool.{true, false}
 use mathlib.Core.List.{List, [], _∷_, _++_}
+use native.Mathlib.Omega.{arith}
 use lib.IntN.{pos, negsuc}
 use Rattle.wire.specs.Number.{numberIn}
 use Rattle.wire.specs.Sequence.{distance, isNewer}
@@ -18,18 +19,18 @@ use Rattle.wire.specs.Checks.{firstOf}
 use Rattle.cursor_packet.specs.Frame.{frameChecks}
 use Rattle.cursor_packet.specs.Rtp.{rtpHolds, unusedZero}
 use Rattle.cursor_packet.specs.Position.{positionChecks, positionAt}
-use Rattle.cursor_fragment.specs.Fragment.{takesType, headerLength, imageData, offsetBits, placeOf, outside, fragmentFrame, fragmentChecks, fragmentAs}
+use Rattle.cursor_fragment.specs.Fragment.{takesType, headerLength, imageData, offsetBits, placeOf, outside, fragmentFrame, fragmentChecks, fragmentAs, fragmentOf, dataOf}
 use Rattle.cursor_fragment.specs.Start.{startOf, noStart, startIn, sameStart}
 use Rattle.cursor_pointer.specs.declared.PointerAnswer.the-variants as pointer
 use Rattle.cursor_pointer.specs.Pointer.{freshPointer, movedTo, positionStatus, positioned}
 use Rattle.cursor_picture.specs.declared.completeness.CompleteAnswer.the-variants as complete
 use Rattle.cursor_picture.specs.Picture.{freshPicture, hasRoom, held}
 use Rattle.cursor_picture.specs.Completeness.{firstEmptyOf, completeness}
-use Rattle.cursor_store.specs.Judging.{ofOpened, startDiffers, bytesDiffer, openedRules, otherRules, judging}
-use Rattle.cursor_store.specs.Assembling.{storeChecks, storeStatus, openedFor, clearedFor, imageAfter, marksAfter, withStart, pictureAfter, assembledAs, assembled}
-use Rattle.cursor_store.specs.Storing.{pointerAfter, stored}
-use Rattle.cursor_store.specs.Receiver.{Call, fragment, other, run}
-use Rattle.cursor_store.specs.Calls.{State, next, byValue}
+use Rattle.cursor_store.specs.Judging.{ofOpened, startDiffers, bytesDiffer, openedRules, otherRules, judging, withSequence}
+use Rattle.cursor_store.specs.Assembling.{storeChecks, storeStatus, openedBy, openedFor, clearedFor, imageAfter, marksAfter, withStart, pictureAfter, assembledAs, fragmentAssembled, assembled}
+use Rattle.cursor_store.specs.Storing.{moves, pointerAfter, stored}
+use Rattle.cursor_store.specs.Receiver.{Call, fragment, other, covers, run}
+use Rattle.cursor_store.specs.Calls.{State, numbered, isAccepted, answered, next, byValue}
 use Rattle.cursor_store.specs.DemandThree.{Whole, Given, SameFragments, SameEnd}
 
 -- an RTP header; the sequence number's two bytes
@@ -113,3 +114,65 @@ pub ends-with
     × (completeness (opened .picture) 5 (opened .marks) ≡ complete.No)
 unfolding run next stored assembled assembledAs storeStatus storeChecks held hasRoom judging openedRules otherRules ofOpened sameStart startDiffers bytesDiffer conflictIn someBelow lesser isNewer distance movedTo openedFor clearedFor imageAfter marksAfter withStart pictureAfter pointerAfter splice fragmentChecks fragmentFrame firstOf frameChecks rtpHolds unusedZero numberIn signed takesType headerLength imageData startOf noStart startIn offsetBits placeOf outside fragmentAs firstEmptyOf firstEmpty completeness
 ends-with = (refl, refl, refl, refl, refl)
+
+-- The premises of the other theorems are met.
+
+-- SequenceIgnored: a continuation of the opened id, as it is and with the sequence number 2
+-- OldFragmentStored: the same
+pub sequence-ignored
+    : (ofOpened (opened .picture) (fragmentOf (middle 31)) ≡ true)
+    × (fragmentAssembled (opened .picture) (withSequence 2 (fragmentOf (middle 31))) (dataOf (middle 31)) (opened .image) (opened .marks)
+    ≡ fragmentAssembled (opened .picture) (fragmentOf (middle 31)) (dataOf (middle 31)) (opened .image) (opened .marks))
+unfolding fragmentAssembled assembledAs held hasRoom judging openedRules otherRules ofOpened startDiffers bytesDiffer conflictIn someBelow lesser openedFor clearedFor imageAfter marksAfter withStart pictureAfter splice firstOf numberIn signed headerLength imageData startIn noStart offsetBits placeOf fragmentAs
+sequence-ignored = (refl, refl)
+
+-- the state `opened`, its picture under id 8 and opened by 65,535
+abbrev pub former : State
+former = record {
+  pointer = opened .pointer;
+  picture = record { opened = true; id = 8; total = 4; opening = 65535; seen = false; start = record { «image_type» = 0; «hot_x» = 0; «hot_y» = 0 } };
+  image = opened .image;
+  marks = opened .marks;
+}
+
+-- WrapOpens: a continuation of id 9 with sequence number 0
+pub wrap-opens
+    : (ofOpened (former .picture) (fragmentOf (middle 0)) ≡ false) × (former .picture .opening ≡ 65535) × (fragmentOf (middle 0) .sequence ≡ 0)
+    × (hasRoom (fragmentOf (middle 0) .total) 5 5 ≡ true)
+    × (firstOf (judging (former .picture) (fragmentOf (middle 0)) (dataOf (middle 0)) (former .image) (former .marks)) ≡ status.Accepted)
+unfolding hasRoom judging openedRules otherRules ofOpened isNewer distance firstOf numberIn signed headerLength imageData startIn noStart offsetBits placeOf fragmentAs
+wrap-opens = (refl, refl, refl, refl, refl)
+
+-- PointerKept: a continuation; and a start that is not newer
+pub pointer-kept
+    : (moves freshPointer (middle 31) ≡ false)
+    × (moves (record { known = true; sequence = 30; x = pos 1; y = pos 2 }) (start 30 1) ≡ false)
+    × (pointerAfter (record { known = true; sequence = 30; x = pos 1; y = pos 2 }) (start 30 1) ≡ record { known = true; sequence = 30; x = pos 1; y = pos 2 })
+unfolding moves pointerAfter movedTo isNewer distance numberIn positionAt signed freshPointer
+pointer-kept = (refl, refl, refl)
+
+-- RefusalKeeps: a packet of no bytes
+pub refusal-keeps : (isAccepted (answered opened [] .answer) ≡ false) × (next opened [] ≡ opened)
+unfolding next stored assembled assembledAs storeStatus storeChecks held hasRoom judging openedRules otherRules ofOpened fragmentChecks fragmentFrame firstOf frameChecks takesType headerLength imageData offsetBits placeOf outside fragmentAs numberIn signed
+refusal-keeps = (refl, refl)
+
+-- OutsideKept: the place before those of a continuation of the opened id; and the place after the total
+pub outside-kept
+    : (covers (middle 31) 0 ≡ false) × (ofOpened (opened .picture) (fragmentOf (middle 31)) ≡ true)
+    × (covers (middle 31) 4 ≡ false) × (fragmentOf (middle 31) .total ≤ 4)
+unfolding ofOpened fragmentAs numberIn offsetBits placeOf signed imageData headerLength
+outside-kept = (refl, refl, refl, omega arith)
+
+-- FormerStaysClosed: a start of id 9 with sequence number 0 opens its picture; then comes a continuation of id 8 with sequence number 65,535
+abbrev pub late : List ℕ
+late = rtp 0xff 0xff ++ (3 ∷ 0 ∷ 14 ∷ 0 ∷ 0 ∷ 0 ∷ 4 ∷ 0 ∷ 8 ∷ 0 ∷ 0 ∷ 0 ∷ 3 ∷ 68 ∷ [])
+
+pub former-stays-closed
+    : (isAccepted (answered former (start 0 1) .answer) ≡ true) × (ofOpened (former .picture) (fragmentOf (start 0 1)) ≡ false)
+    × (fragmentOf (start 0 1) .id ≡ fragmentOf late .id → ⊥)
+    × (isNewer true (fragmentOf (start 0 1) .sequence) (fragmentOf late .sequence) ≡ false)
+    × (numbered (answered (next former (start 0 1)) late .answer) ≡ record { number = 11; place = 0 })
+unfolding next stored assembled assembledAs storeStatus storeChecks held hasRoom judging openedRules otherRules ofOpened startDiffers bytesDiffer conflictIn someBelow lesser isNewer distance openedBy openedFor clearedFor imageAfter marksAfter withStart pictureAfter splice fragmentChecks fragmentFrame firstOf frameChecks rtpHolds unusedZero numberIn signed takesType headerLength imageData startOf noStart startIn offsetBits placeOf outside fragmentAs
+former-stays-closed = (refl, refl, λ e. let no : ⊥ = omega arith in no, refl, refl)
+
+-- DemandThree: PremisesMet, above. Without a premise: NumberByChecks.

@@ -42,15 +42,17 @@ records-lent = record { whole = refl; pointer = bytes-computed (lent .pointer) r
 
 forwards-lent : PacketsLent forwards
 unfolding allBelow
-forwards-lent =
-    (bytes-computed (start 30 1) refl,
-    (bytes-computed [] refl, (bytes-computed (middle 31) refl, (bytes-computed (last 32) refl, (bytes-computed (middle 31) refl, tt)))))
+forwards-lent = (
+  bytes-computed (start 30 1) refl,
+  (bytes-computed [] refl, (bytes-computed (middle 31) refl, (bytes-computed (last 32) refl, (bytes-computed (middle 31) refl, tt)))),
+)
 
 backwards-lent : PacketsLent backwards
 unfolding allBelow
-backwards-lent =
-    (bytes-computed (last 7) refl,
-    (bytes-computed (start 39 1) refl, (bytes-computed (start 41 5) refl, (bytes-computed (middle 2) refl, (bytes-computed (start 39 1) refl, tt)))))
+backwards-lent = (
+  bytes-computed (last 7) refl,
+  (bytes-computed (start 39 1) refl, (bytes-computed (start 41 5) refl, (bytes-computed (middle 2) refl, (bytes-computed (start 39 1) refl, tt)))),
+)
 
 -- the records hold what is opened by value
 is-opened : OpenedAs byValue whole opened → OpenedAs overRecords whole lent

@@ -195,8 +195,7 @@ complete-same
     → (overRecords .Complete s → byValue .Complete (decoded s)) × (byValue .Complete (decoded s) → overRecords .Complete s)
 unfolding cursorComplete
 complete-same s r =
-    let there : leb pictureLength (length (s .picture)) ≡ true = le-leb _ _ (lengths s r .1) in
-    (
+    let there : leb pictureLength (length (s .picture)) ≡ true = le-leb _ _ (lengths s r .1) in (
       λ h. is-yes (completeness (pictureOf (s .picture)) (length (s .image)) (s .marks)) (simp there at h),
       λ h. simp there (ap yesOrNo h),
     )
