@@ -394,6 +394,8 @@ ashlarsilk_answer ashlarsilk_cursor_position(uint8_t *pointer, size_t pointer_le
  *   `marks`    each of the fragment's places to 1; where the fragment opens a picture, first all places of that picture to 0,
  *   `picture`  the picture that the fragment opened, and the start's own fields,
  *   `pointer`  the start's position and sequence number, if that is newer.
+ * A record is written only where it changes: a continuation leaves each byte of `pointer`, and a fragment that neither opens a picture nor is its
+ * first start each byte of `picture`.
  */
 ashlarsilk_answer ashlarsilk_cursor_store(uint8_t *pointer, size_t pointer_length, uint8_t *picture, size_t picture_length,
                                           const uint8_t *packet, size_t packet_length, uint8_t *image, size_t image_length,

@@ -39,7 +39,7 @@ pub extern "C" fn ashlarsilk_cursor_position(pointer: &mut [u8], packet: &[u8]) 
 }
 
 // The call for starts and continuations. Answers 0, stores the data in the image with its marks, and leaves both records as the fragment
-// sets them; or answers the refusal, 10 where a record is shorter than its layout, and changes nothing.
+// sets them, each byte as it was where it sets nothing; or answers the refusal, 10 where a record is shorter than its layout, and changes nothing.
 #[no_mangle]
 pub extern "C" fn ashlarsilk_cursor_store(
     pointer: &mut [u8],

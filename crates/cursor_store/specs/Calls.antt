@@ -7,7 +7,7 @@ use lib.Dec.{eqb}
 use lib.ListN.{length, getD}
 use Rattle.wire.specs.Sequence.{isNewer}
 use Rattle.wire.specs.Numbered.{Numbered, acceptedAs, refusedAs}
-use Rattle.cursor_fragment.specs.Fragment.{fragmentOf}
+use Rattle.cursor_fragment.specs.Fragment.{isStart, fragmentOf}
 use Rattle.cursor_pointer.specs.declared.Pointer.{Pointer}
 use Rattle.cursor_picture.specs.declared.Picture.{Picture}
 use Rattle.cursor_picture.specs.declared.completeness.CompleteAnswer.the-variants.{Yes}
@@ -70,6 +70,12 @@ NumberByChecks =
 -- a refusal changes nothing
 unfoldable pub RefusalKeeps : Type 0
 RefusalKeeps = (s : State) (packet : List ℕ) → isAccepted (answered s packet .answer) ≡ false → next s packet ≡ s
+
+-- an accepted fragment that neither opens a picture nor is its first start leaves the picture's record as it was
+unfoldable pub PictureKept : Type 0
+PictureKept =
+    (s : State) (packet : List ℕ) → isAccepted (answered s packet .answer) ≡ true → ofOpened (s .picture) (fragmentOf packet) ≡ true
+    → (isStart packet ≡ true → s .picture .seen ≡ true) → next s packet .picture ≡ s .picture
 
 -- a byte that the fragment doesn't cover stays, and so does such a mark at or beyond the fragment's total; of the opened id each such
 -- mark stays

@@ -156,6 +156,15 @@ pub refusal-keeps : (isAccepted (answered opened [] .answer) ≡ false) × (next
 unfolding next stored assembled assembledAs storeStatus storeChecks held hasRoom judging openedRules otherRules ofOpened fragmentChecks fragmentFrame firstOf frameChecks takesType headerLength imageData offsetBits placeOf outside fragmentAs numberIn signed
 refusal-keeps = (refl, refl)
 
+-- PictureKept: a start of the opened id for the second time, after the first
+pub picture-kept
+    : (isAccepted (answered (next opened (start 30 1)) (start 39 1) .answer) ≡ true)
+    × (ofOpened (next opened (start 30 1) .picture) (fragmentOf (start 39 1)) ≡ true)
+    × (next opened (start 30 1) .picture .seen ≡ true)
+    × (next (next opened (start 30 1)) (start 39 1) .picture ≡ next opened (start 30 1) .picture)
+unfolding next stored assembled assembledAs storeStatus storeChecks held hasRoom judging openedRules otherRules ofOpened sameStart startDiffers bytesDiffer conflictIn someBelow lesser openedFor clearedFor imageAfter marksAfter withStart pictureAfter splice fragmentChecks fragmentFrame firstOf frameChecks rtpHolds unusedZero numberIn signed takesType headerLength imageData startOf noStart startIn offsetBits placeOf outside fragmentAs
+picture-kept = (refl, refl, refl, refl)
+
 -- OutsideKept: the place before those of a continuation of the opened id; and the place after the total
 pub outside-kept
     : (covers (middle 31) 0 ≡ false) × (ofOpened (opened .picture) (fragmentOf (middle 31)) ≡ true)

@@ -223,7 +223,7 @@ pub fn position(pointer: &mut Pointer, packet: &[u8]) -> Result<(), Refused> {
 /// Takes a start or a continuation: stores its data in `image`, and marks the places that it
 /// fills. A fragment of another id opens a picture if it is newer; a newer start moves the pointer.
 /// Refusals: 1 to 4, 9 to 13 and 17; they change nothing. No byte of `image` or `marks` at or
-/// beyond the total is changed.
+/// beyond the total is changed. A record that the fragment leaves the same keeps each of its bytes.
 ///
 /// ```
 /// use ashlarsilk::cursor::{self, Picture, Pointer};

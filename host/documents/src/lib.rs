@@ -6,6 +6,8 @@
 //! - Each crate of crates.txt stands in README's table, each export in the header and in HOSTS,
 //!   each refusal 0 to 18 in REFUSALS.
 //! - No public function has a `requires`, as the documents say.
+//! - Each statement of `specs/` has a proof in `proofs/Laws/` and is named in its crate's
+//!   `specs/Examples.antt`, where its premises are met, or it is said to have none; and in PROMISES.
 //! - No line of a document is too long to read, and no cell of a table is a paragraph.
 //!
 //! What a name in backticks may be is said in [`names`]; what the repository has, in [`repository`].
@@ -44,6 +46,8 @@ pub fn faults(root: &Path) -> Result<Vec<String>, String> {
     faults.extend(exports_missing(&repository, "docs/HOSTS.md", &hosts));
     faults.extend(refusals_missing(&refusals));
     faults.extend(repository.asking.iter().map(|name| format!("`{name}` has a requires")));
+    let promises = repository::text(root, "docs/PROMISES.md")?;
+    faults.extend(statements_missing(&repository, &promises));
     for document in repository::documents(root)? {
         faults.extend(layout::faults(&document, &repository::text(root, &document)?));
     }
@@ -79,6 +83,30 @@ pub fn exports_missing(repository: &Repository, document: &str, text: &str) -> V
     let words: Vec<&str> = text.split(|c: char| !c.is_alphanumeric() && c != '_').collect();
     let missing = repository.exports.iter().filter(|export| !words.contains(&export.as_str()));
     missing.map(|export| format!("{document}: the export `{export}` is not named")).collect()
+}
+
+/// Statements without a proof, without an example of their crate, or that PROMISES doesn't name.
+pub fn statements_missing(repository: &Repository, promises: &str) -> Vec<String> {
+    let named =
+        |name: &str| promises.split(|c: char| !c.is_alphanumeric()).any(|word| word == name);
+    let mut faults = Vec::new();
+    for (krate, found) in &repository.crates {
+        for name in &found.statements {
+            let example = found.specs.get("Examples").is_some_and(|defined| defined.contains(name));
+            if !found.proved.contains(name) {
+                faults.push(format!("crates/{krate}: the statement `{name}` has no proof"));
+            }
+            if !found.examples.contains(name) {
+                faults.push(format!("crates/{krate}/specs/Examples.antt: `{name}` has no example"));
+            }
+            if !example && !named(name) {
+                faults.push(format!(
+                    "docs/PROMISES.md: `{krate}` states `{name}`, which is not named"
+                ));
+            }
+        }
+    }
+    faults
 }
 
 /// Refusals 0 to 18 that have no row of their own, or more than one.

@@ -18,6 +18,12 @@ pub struct Crate {
     pub modules: BTreeMap<String, BTreeSet<String>>,
     /// The wrong programs, in the gate or in `edits/`.
     pub edits: BTreeSet<String>,
+    /// The statements of `specs/`: definitions of type `Type 0`.
+    pub statements: BTreeSet<String>,
+    /// What the laws of `proofs/Laws/` are proofs of.
+    pub proved: BTreeSet<String>,
+    /// The words of `specs/Examples.antt`.
+    pub examples: BTreeSet<String>,
 }
 
 /// What the documents are held to.
@@ -42,9 +48,14 @@ impl Repository {
             let folder = root.join("crates").join(name);
             let mut found = Crate::default();
             for (file, text) in files(&folder.join("specs"), "antt")? {
+                if file == "Examples" {
+                    found.examples.extend(words(&text).into_iter().map(String::from));
+                }
+                found.statements.extend(statements(&text));
                 found.specs.insert(file, definitions(&text));
             }
             for (file, text) in files(&folder.join("proofs/Laws"), "antt")? {
+                found.proved.extend(proved(&text));
                 found.laws.insert(file, definitions(&text));
             }
             for (file, text) in files(&folder.join("src"), "rt")? {
@@ -54,7 +65,7 @@ impl Repository {
                 found.modules.insert(file, items(&text));
             }
             for folder in [folder.join("must-fail"), root.join("edits").join(name)] {
-                found.edits.extend(files(&folder, "edit")?.into_iter().map(|(file, _)| file));
+                found.edits.extend(files(&folder, "edit")?.into_keys());
             }
             crates.insert(name.to_string(), found);
         }
@@ -151,6 +162,23 @@ fn definitions(text: &str) -> BTreeSet<String> {
         }
     }
     found
+}
+
+/// The definitions of type `Type 0`, which are statements.
+fn statements(text: &str) -> Vec<String> {
+    let name = |line: &str| {
+        let marked = line.strip_prefix("abbrev pub ").or(line.strip_prefix("unfoldable pub "))?;
+        Some(marked.strip_suffix(" : Type 0")?.to_string())
+    };
+    text.lines().filter_map(name).filter(|name| !name.contains(' ')).collect()
+}
+
+/// Of each law, the first word of its type.
+fn proved(text: &str) -> Vec<String> {
+    let of_law = |line: &str| {
+        Some(words(line.strip_prefix("pub ")?.split_once(" : ")?.1).first()?.to_string())
+    };
+    text.lines().filter_map(of_law).collect()
 }
 
 /// The functions, types, constants, fields and variants of a source, and what it passes on by

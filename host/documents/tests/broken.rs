@@ -3,7 +3,10 @@
 use std::path::{Path, PathBuf};
 
 use documents::repository::{self, Repository};
-use documents::{crates_missing, exports_missing, faults, layout, naming_faults, refusals_missing};
+use documents::{
+    crates_missing, exports_missing, faults, layout, naming_faults, refusals_missing,
+    statements_missing,
+};
 
 fn root() -> PathBuf {
     Path::new(env!("CARGO_MANIFEST_DIR")).join("../..")
@@ -60,6 +63,20 @@ fn what_is_missing() {
     assert_eq!(exports_missing(&repository, "docs/HOSTS.md", &without).len(), 1);
     let refusals = repository::text(&root(), "docs/REFUSALS.md").unwrap();
     assert_eq!(refusals_missing(&refusals.replace("| 17 |", "| 19 |")).len(), 1);
+}
+
+#[test]
+fn a_statement_without_proof_example_or_promise() {
+    let promises = repository::text(&root(), "docs/PROMISES.md").unwrap();
+    let mut repository = Repository::read(&root()).unwrap();
+    let count =
+        |repository: &Repository, promises: &str| statements_missing(repository, promises).len();
+    assert!(repository.crates["cursor_calls"].statements.contains("RunDecoded"));
+    assert_eq!(count(&repository, &promises), 0);
+    assert_eq!(count(&repository, &promises.replace("RunDecoded", "")), 1);
+    let found = repository.crates.get_mut("cursor_calls").unwrap();
+    assert!(found.proved.remove("RunDecoded") && found.examples.remove("RunDecoded"));
+    assert_eq!(count(&repository, &promises), 2);
 }
 
 #[test]

@@ -5,7 +5,7 @@ use mathlib.Core.Path.{_≡_, refl, sym, ap, _∙_}
 use mathlib.Core.Bool.{Bool, true, false, cond}
 use mathlib.Core.List.{List}
 use native.Mathlib.Omega.{arith}
-use borrow.Author.Tests.{ne-eqb}
+use borrow.Author.Tests.{ne-eqb, not-false}
 use lib.ListN.{length, getD, replicate, length-replicate}
 use Rattle.wire.specs.Splice.{splice}
 use Rattle.wire.specs.declared.status.Status.{Status}
@@ -13,17 +13,19 @@ use Rattle.wire.proofs.Laws.Splice.{length-splice, after-part, getD-splice}
 use Rattle.wire.specs.Checks.{firstOf, accepted}
 use Rattle.wire.specs.Numbered.{refusedAs}
 use Rattle.wire.proofs.Laws.Checks.{accepted-as}
-use Rattle.cursor_fragment.specs.Fragment.{fragmentOf, dataOf, DataInside}
+use Rattle.cursor_fragment.specs.Fragment.{isStart, fragmentOf, dataOf, DataInside}
+use Rattle.cursor_fragment.specs.Start.{sameStart}
 use Rattle.cursor_fragment.specs.declared.Fragment.{Fragment}
-use Rattle.cursor_fragment.proofs.Laws.Fragment.{data-inside}
+use Rattle.cursor_fragment.proofs.Laws.Fragment.{data-inside, starts-is}
+use Rattle.cursor_fragment.proofs.Laws.Start.{same-start-is}
 use Rattle.cursor_picture.specs.declared.Picture.{Picture}
 use Rattle.cursor_picture.proofs.Laws.Picture.{room-says}
-use Rattle.cursor_store.specs.Judging.{ofOpened, opens, judging}
+use Rattle.cursor_store.specs.Judging.{ofOpened, startDiffers, opens, judging}
 use Rattle.cursor_store.specs.Assembling.{storeStatus, openedBy, openedFor, clearedFor, imageAfter, marksAfter, withStart, pictureAfter, assembledAs, assembled}
 use Rattle.cursor_store.specs.Storing.{pointerAfter, stored}
 use Rattle.cursor_store.specs.Receiver.{covers}
-use Rattle.cursor_store.specs.Calls.{State, numbered, isAccepted, answered, next, NumberByChecks, RefusalKeeps, OutsideKept, FormerStaysClosed}
-use Rattle.cursor_store.proofs.Laws.Judging.{judged-room, judged-late}
+use Rattle.cursor_store.specs.Calls.{State, numbered, isAccepted, answered, next, NumberByChecks, RefusalKeeps, PictureKept, OutsideKept, FormerStaysClosed}
+use Rattle.cursor_store.proofs.Laws.Judging.{judged-room, judged-start, judged-late}
 use Rattle.cursor_store.proofs.Laws.Assembling.{store-passed}
 use Rattle.cursor_store.proofs.Laws.Storing.{stored-refused, stored-accepted}
 
@@ -82,6 +84,21 @@ module _ (s : State) (packet : List ℕ) (h : isAccepted (answered s packet .ans
       let l = room-says (fragmentOf packet .total) (length (s .image)) (length (s .marks)) m in
       (data-inside packet (r .1), l .0, l .1)
 
+  picture-stays : ofOpened (s .picture) (fragmentOf packet) ≡ true → (isStart packet ≡ true → s .picture .seen ≡ true)
+      → next s packet .picture ≡ s .picture
+  unfolding pictureAfter openedFor withStart startDiffers
+  picture-stays o seen = ap (λ (x : State). x .picture) next-is ∙ simp o (go (isStart packet) refl)
+    where
+      q : Picture
+      q = s .picture
+
+      go : (b : Bool) → isStart packet ≡ b → withStart (fragmentOf packet) q ≡ q
+      go false e = simp (starts-is packet ∙ e)
+      go true e =
+          let differs = judged-start q (fragmentOf packet) (dataOf packet) (s .image) (s .marks) (store-passed q packet (s .image) (s .marks) status-accepted .2) o in
+          let same : sameStart (q .start) (fragmentOf packet .start) ≡ true = not-false _ (simp (starts-is packet ∙ e, seen e) at differs) in
+          simp (starts-is packet ∙ e) (rw (← same-start-is (q .start) (fragmentOf packet .start) same, ← seen e))
+
   module _ (i : ℕ) (u : covers packet i ≡ false) where
     abbrev f : Fragment
     f = fragmentOf packet
@@ -121,6 +138,10 @@ module _ (s : State) (packet : List ℕ) (h : isAccepted (answered s packet .ans
     opened-kept : ofOpened (s .picture) f ≡ true → getD (next s packet .marks) i 0 ≡ getD (s .marks) i 0
     unfolding clearedFor
     opened-kept o = marks-as ∙ simp o
+
+pub picture-kept : PictureKept
+unfolding PictureKept
+picture-kept s packet h o seen = picture-stays s packet h o seen
 
 pub outside-kept : OutsideKept
 unfolding OutsideKept RefusalKeeps
