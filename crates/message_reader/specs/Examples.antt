@@ -1,4 +1,5 @@
--- 01, "Proved table of small examples": P1 to P6, as one theorem over their list; and messages that meet the premises of the theorems. Assumes nothing.
+-- 01, "Proved table of small examples": P1 to P6, as one theorem over their list; and small messages that meet the premises of the theorems.
+-- Assumes nothing.
 use Prim.Native.Nat.{ℕ, zero, suc}
 use mathlib.Core.Path.{_≡_, refl}
 use mathlib.Core.List.{List, [], _∷_, _++_}
@@ -12,13 +13,15 @@ use Rattle.wire.specs.Number.{numberIn}
 use Rattle.wire.specs.Numbered.{acceptedAs}
 use Rattle.wire.specs.declared.status.Status.{Status}
 use Rattle.wire.specs.declared.status.Status.the-variants as status
+use Rattle.message_rules.specs.declared.record.Field.{Field}
 use Rattle.message_rules.specs.declared.record.Message.{Message}
 use Rattle.message_reader.specs.declared.Answer.{Answer}
 use Rattle.message_reader.specs.declared.Answer.the-variants as answer
 use Rattle.message_rules.specs.Rules.{needed, rolesOf, roleOf, lengthsOf, lengthIn, lengthOk, knownCommand}
 use Rattle.wire.specs.Below.{allBelow}
 use Rattle.message_rules.specs.Record.{absent, fieldOf, withField, emptyOf, tlvSize, sizeTo}
-use Rattle.message_reader.specs.Reading.{headerStatus, typeAt, lengthAt, tlvAt, hasNeeded, isComplete, lastOf, tlvsFrom, readMessage, numbered}
+use Rattle.message_reader.specs.Reading.{headerStatus, typeAt, lengthAt, tlvAt, hasNeeded, isComplete, lastOf}
+use Rattle.message_reader.specs.Reading.{tlvsFrom, readMessage, numbered}
 use Rattle.message_reader.specs.Theorems.{Refusal, Acceptance}
 use Rattle.message_reader.specs.Theorems as given
 use Rattle.message_rules.specs.Accessors.{portOf}
@@ -99,67 +102,110 @@ command-7 = (given.command (omega arith) refl refl refl, refl)
 -- 5: one byte for a TLV; a value of one byte that is not there
 pub no-tlv : Met (0 ∷ 5 ∷ 1 ∷ 3 ∷ 4 ∷ []) status.TlvTruncated 5 4
 unfolding numberIn rolesOf roleOf lengthsOf lengthIn lengthOk knownCommand fieldOf withField emptyOf firstOf headerStatus tlvAt tlvsFrom readMessage
-no-tlv = (given.tlv (record { four = omega arith; size = refl; version = refl; command = refl }) given.start (omega arith) (given.truncated (inl (omega arith))), refl)
+no-tlv = (
+  given.tlv (record { four = omega arith; size = refl; version = refl; command = refl })
+      given.start (omega arith) (given.truncated (inl (omega arith))),
+  refl,
+)
 
 pub no-value : Met (0 ∷ 7 ∷ 1 ∷ 3 ∷ 4 ∷ 0 ∷ 1 ∷ []) status.TlvTruncated 5 4
 unfolding numberIn rolesOf roleOf lengthsOf lengthIn lengthOk knownCommand fieldOf withField emptyOf firstOf headerStatus tlvAt tlvsFrom readMessage
-no-value = (given.tlv (record { four = omega arith; size = refl; version = refl; command = refl }) given.start (omega arith) (given.truncated (inr (omega arith))), refl)
+no-value = (
+  given.tlv (record { four = omega arith; size = refl; version = refl; command = refl })
+      given.start (omega arith) (given.truncated (inr (omega arith))),
+  refl,
+)
 
 -- 8: type 1, which there is not; 6: a Security Token of no bytes
 pub unknown : Met (0 ∷ 7 ∷ 1 ∷ 3 ∷ 1 ∷ 0 ∷ 0 ∷ []) status.TlvUnexpected 8 4
 unfolding numberIn rolesOf roleOf lengthsOf lengthIn lengthOk knownCommand fieldOf withField emptyOf firstOf headerStatus tlvAt tlvsFrom readMessage
-unknown = (given.tlv (record { four = omega arith; size = refl; version = refl; command = refl }) given.start (omega arith) (given.unexpected (omega arith) refl), refl)
+unknown = (
+  given.tlv (record { four = omega arith; size = refl; version = refl; command = refl })
+      given.start (omega arith) (given.unexpected (omega arith) refl),
+  refl,
+)
 
 pub empty-token : Met (0 ∷ 7 ∷ 1 ∷ 3 ∷ 4 ∷ 0 ∷ 0 ∷ []) status.TlvLength 6 4
 unfolding numberIn rolesOf roleOf lengthsOf lengthIn lengthOk knownCommand fieldOf withField emptyOf firstOf headerStatus tlvAt tlvsFrom readMessage
-empty-token = (given.tlv (record { four = omega arith; size = refl; version = refl; command = refl }) given.start (omega arith) (given.length-wrong (omega arith) (λ e. omega arith) refl), refl)
+empty-token = (
+  given.tlv (record { four = omega arith; size = refl; version = refl; command = refl })
+      given.start (omega arith) (given.length-wrong (omega arith) (λ e. omega arith) refl),
+  refl,
+)
 
 -- 7: a second Security Token, at place 8
 pub two-tokens : Met (0 ∷ 12 ∷ 1 ∷ 3 ∷ 4 ∷ 0 ∷ 1 ∷ 9 ∷ 4 ∷ 0 ∷ 1 ∷ 9 ∷ []) status.TlvRepeated 7 8
 unfolding numberIn rolesOf roleOf lengthsOf lengthIn lengthOk knownCommand fieldOf withField emptyOf firstOf headerStatus tlvAt tlvsFrom readMessage
-two-tokens = (given.tlv (record { four = omega arith; size = refl; version = refl; command = refl }) (given.next given.start (record { whole = omega arith; expected = λ e. omega arith; fitting = refl; first = refl })) (omega arith) (given.repeated (omega arith) (λ e. omega arith) refl refl), refl)
+two-tokens = (
+  given.tlv (record { four = omega arith; size = refl; version = refl; command = refl })
+      (given.next given.start (record { whole = omega arith; expected = λ e. omega arith; fitting = refl; first = refl }))
+      (omega arith) (given.repeated (omega arith) (λ e. omega arith) refl refl),
+  refl,
+)
 
--- 8: none, and the place is the number of bytes
+-- 8: no Security Token, and the place is the number of bytes
 pub no-token : Met (0 ∷ 4 ∷ 1 ∷ 3 ∷ []) status.TlvUnexpected 8 4
-unfolding numberIn rolesOf roleOf lengthsOf lengthIn lengthOk knownCommand fieldOf withField emptyOf allBelow hasNeeded isComplete firstOf headerStatus tlvAt lastOf tlvsFrom readMessage
+unfolding numberIn rolesOf roleOf lengthsOf lengthIn lengthOk knownCommand fieldOf withField emptyOf allBelow hasNeeded isComplete firstOf
+    headerStatus tlvAt lastOf tlvsFrom readMessage
 no-token = (given.missing 4 (record { four = omega arith; size = refl; version = refl; command = refl }) given.start refl refl, refl)
+
+-- a value of len bytes; a record of command c with this RTSP Port, Source ID and Security Token
+abbrev pub there : ℕ → ℕ → Field
+there at len = record { present = true; at = at; len = len }
+
+abbrev pub recordOf : ℕ → Field → Field → Field → Message
+recordOf c rtsp source token =
+    record {
+      command = c;
+      «friendly_name» = absent;
+      «rtsp_port» = rtsp;
+      «source_id» = source;
+      «security_token» = token;
+      «security_options» = absent;
+      «pin_challenge» = absent;
+      «pin_reason» = absent;
+    }
 
 -- a Security Handshake with a token of one byte, and its record
 abbrev pub handshake : List ℕ
 handshake = 0 ∷ 8 ∷ 1 ∷ 3 ∷ 4 ∷ 0 ∷ 1 ∷ 9 ∷ []
 
 abbrev pub handshakeRecord : Message
-handshakeRecord =
-    record {
-      command = 3;
-      «friendly_name» = absent;
-      «rtsp_port» = absent;
-      «source_id» = absent;
-      «security_token» = record { present = true; at = 7; len = 1 };
-      «security_options» = absent;
-      «pin_challenge» = absent;
-      «pin_reason» = absent;
-    }
+handshakeRecord = recordOf 3 absent absent (there 7 1)
+
+-- its token is all that it needs
+pub complete : (t : ℕ) → roleOf 3 t ≡ needed → fieldOf handshakeRecord t .present ≡ true
+unfolding rolesOf roleOf fieldOf
+complete zero e = absurd (let no : ⊥ = omega arith in no)
+complete (suc zero) e = absurd (let no : ⊥ = omega arith in no)
+complete (suc (suc zero)) e = absurd (let no : ⊥ = omega arith in no)
+complete (suc (suc (suc zero))) e = absurd (let no : ⊥ = omega arith in no)
+complete (suc (suc (suc (suc zero)))) e = refl
+complete (suc (suc (suc (suc (suc zero))))) e = absurd (let no : ⊥ = omega arith in no)
+complete (suc (suc (suc (suc (suc (suc zero)))))) e = absurd (let no : ⊥ = omega arith in no)
+complete (suc (suc (suc (suc (suc (suc (suc zero))))))) e = absurd (let no : ⊥ = omega arith in no)
+complete (suc (suc (suc (suc (suc (suc (suc (suc t)))))))) e = absurd (let no : ⊥ = omega arith in no)
 
 -- AcceptedExactly, ZeroExactly: it is right, and is accepted with that record
-pub accepted : Acceptance handshake handshakeRecord × (readMessage handshake ≡ answer.Accepted handshakeRecord) × (numbered (readMessage handshake) ≡ acceptedAs)
-unfolding numberIn rolesOf roleOf lengthsOf lengthIn lengthOk knownCommand fieldOf withField emptyOf allBelow hasNeeded isComplete firstOf headerStatus tlvAt lastOf tlvsFrom readMessage
-accepted = (record { headed = record { four = omega arith; size = refl; version = refl; command = refl }; reached = given.next given.start (record { whole = omega arith; expected = λ e. omega arith; fitting = refl; first = refl }); complete = complete }, refl, refl)
-  where
-    complete : (t : ℕ) → roleOf 3 t ≡ needed → fieldOf handshakeRecord t .present ≡ true
-    complete zero e = absurd (let no : ⊥ = omega arith in no)
-    complete (suc zero) e = absurd (let no : ⊥ = omega arith in no)
-    complete (suc (suc zero)) e = absurd (let no : ⊥ = omega arith in no)
-    complete (suc (suc (suc zero))) e = absurd (let no : ⊥ = omega arith in no)
-    complete (suc (suc (suc (suc zero)))) e = refl
-    complete (suc (suc (suc (suc (suc zero))))) e = absurd (let no : ⊥ = omega arith in no)
-    complete (suc (suc (suc (suc (suc (suc zero)))))) e = absurd (let no : ⊥ = omega arith in no)
-    complete (suc (suc (suc (suc (suc (suc (suc zero))))))) e = absurd (let no : ⊥ = omega arith in no)
-    complete (suc (suc (suc (suc (suc (suc (suc (suc t)))))))) e = absurd (let no : ⊥ = omega arith in no)
+pub accepted
+    : Acceptance handshake handshakeRecord × (readMessage handshake ≡ answer.Accepted handshakeRecord)
+    × (numbered (readMessage handshake) ≡ acceptedAs)
+unfolding numberIn rolesOf roleOf lengthsOf lengthIn lengthOk knownCommand fieldOf withField emptyOf allBelow hasNeeded isComplete firstOf
+    headerStatus tlvAt lastOf tlvsFrom readMessage
+accepted = (
+  record {
+    headed = record { four = omega arith; size = refl; version = refl; command = refl };
+    reached = given.next given.start (record { whole = omega arith; expected = λ e. omega arith; fitting = refl; first = refl });
+    complete = complete;
+  },
+  refl,
+  refl,
+)
 
 -- AcceptedWellFormed: the same message, of 8 bytes; right before its value at 7 stand the type 4 and the length 1
 pub well-formed
     : (readMessage handshake ≡ answer.Accepted handshakeRecord) × (sizeTo handshakeRecord 8 ≡ length handshake) × (typeAt handshake 4 ≡ 4)
     × (lengthAt handshake 4 ≡ 1)
-unfolding numberIn rolesOf roleOf lengthsOf lengthIn lengthOk knownCommand fieldOf withField emptyOf tlvSize sizeTo allBelow hasNeeded isComplete firstOf headerStatus tlvAt lastOf tlvsFrom readMessage
+unfolding numberIn rolesOf roleOf lengthsOf lengthIn lengthOk knownCommand fieldOf withField emptyOf tlvSize sizeTo allBelow hasNeeded
+    isComplete firstOf headerStatus tlvAt lastOf tlvsFrom readMessage
 well-formed = (refl, refl, refl, refl)

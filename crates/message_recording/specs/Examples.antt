@@ -27,7 +27,8 @@ pub two-messages
     : (listing (sourceReady ++ stopProjection) ≡ (0, line.Message 1 33) ∷ (33, line.Message 2 28) ∷ (61, line.End) ∷ [])
     × (listing ((sourceReady ++ stopProjection) ++ (0 ∷ []))
     ≡ (0, line.Message 1 33) ∷ (33, line.Message 2 28) ∷ (61, line.Refused status.Truncated) ∷ [])
-unfolding sourceReady stopProjection numberIn rolesOf roleOf lengthsOf lengthIn lengthOk knownCommand fieldOf withField emptyOf allBelow hasNeeded isComplete firstOf readSize headerStatus tlvAt lastOf tlvsFrom readMessage neededOf lineOf linesFrom linesAt listing
+unfolding sourceReady stopProjection numberIn rolesOf roleOf lengthsOf lengthIn lengthOk knownCommand fieldOf withField emptyOf allBelow
+    hasNeeded isComplete firstOf readSize headerStatus tlvAt lastOf tlvsFrom readMessage neededOf lineOf linesFrom linesAt listing
 two-messages = (refl, refl)
 
 -- an empty recording: `end 0`
