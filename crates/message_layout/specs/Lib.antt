@@ -1,1 +1,2 @@
 pub mod MessageLayout
+pub mod Examples

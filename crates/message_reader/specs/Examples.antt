@@ -1,6 +1,6 @@
 -- 01, "Proved table of small examples": P1 to P6, as one theorem over their list; and small messages that meet the premises of the theorems.
 -- Assumes nothing.
-use Prim.Native.Nat.{ℕ, zero, suc}
+use Prim.Native.Nat.{ℕ}
 use mathlib.Core.Path.{_≡_, refl}
 use mathlib.Core.List.{List, [], _∷_, _++_}
 use mathlib.Core.Bool.{Bool, true, false, _&&_}
@@ -22,6 +22,8 @@ use Rattle.wire.specs.Below.{allBelow}
 use Rattle.message_rules.specs.Record.{absent, fieldOf, withField, emptyOf, tlvSize, sizeTo}
 use Rattle.message_reader.specs.Reading.{headerStatus, typeAt, lengthAt, tlvAt, hasNeeded, isComplete, lastOf}
 use Rattle.message_reader.specs.Reading.{tlvsFrom, readMessage, numbered}
+use Rattle.message_rules.proofs.Laws.Rules.{each-type, type-small}
+use Rattle.wire.proofs.Laws.Bool.{impossible}
 use Rattle.message_reader.specs.Theorems.{Refusal, Acceptance}
 use Rattle.message_reader.specs.Theorems as given
 use Rattle.message_rules.specs.Accessors.{portOf}
@@ -176,15 +178,9 @@ handshakeRecord = recordOf 3 absent absent (there 7 1)
 -- its token is all that it needs
 pub complete : (t : ℕ) → roleOf 3 t ≡ needed → fieldOf handshakeRecord t .present ≡ true
 unfolding rolesOf roleOf fieldOf
-complete zero e = absurd (let no : ⊥ = omega arith in no)
-complete (suc zero) e = absurd (let no : ⊥ = omega arith in no)
-complete (suc (suc zero)) e = absurd (let no : ⊥ = omega arith in no)
-complete (suc (suc (suc zero))) e = absurd (let no : ⊥ = omega arith in no)
-complete (suc (suc (suc (suc zero)))) e = refl
-complete (suc (suc (suc (suc (suc zero))))) e = absurd (let no : ⊥ = omega arith in no)
-complete (suc (suc (suc (suc (suc (suc zero)))))) e = absurd (let no : ⊥ = omega arith in no)
-complete (suc (suc (suc (suc (suc (suc (suc zero))))))) e = absurd (let no : ⊥ = omega arith in no)
-complete (suc (suc (suc (suc (suc (suc (suc (suc t)))))))) e = absurd (let no : ⊥ = omega arith in no)
+complete t e =
+    each-type (λ u. roleOf 3 u ≡ needed → fieldOf handshakeRecord u .present ≡ true) impossible impossible impossible
+    (λ f. absurd (let no : ⊥ = omega arith in no)) (λ f. refl) impossible impossible impossible t (type-small 3 t (λ f. omega arith)) e
 
 -- AcceptedExactly, ZeroExactly: it is right, and is accepted with that record
 pub accepted
