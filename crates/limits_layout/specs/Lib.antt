@@ -1,1 +1,2 @@
 pub mod LimitsLayout
+pub mod Examples
