@@ -8,7 +8,7 @@ pub roles-of-source-ready : (roleOf 1 2 ≡ needed) × (roleOf 1 0 ≡ optional)
 unfolding rolesOf roleOf
 roles-of-source-ready = (refl, refl, refl, refl)
 
--- Lengths: those of a Friendly Name, the even numbers from 2 to 520; of a type that there is not, none
+-- the lengths of a Friendly Name, the even numbers from 2 to 520; of a type that there is not, none
 pub lengths-of-name
     : (lengthsOf 0 ≡ (2, 520, 2)) × (lengthOk 0 0 ≡ false) × (lengthOk 0 2 ≡ true) × (lengthOk 0 3 ≡ false) × (lengthOk 0 520 ≡ true)
     × (lengthOk 0 522 ≡ false) × (lengthOk 1 1 ≡ false)

@@ -48,15 +48,13 @@ roleOf c t = getD (rolesOf c) t foreign
 unfoldable pub knownCommand : ℕ → Bool
 knownCommand c = leb 1 c && leb c 6
 
--- the lengths that a value may have: the least, the greatest, and what they are multiples of
-abbrev pub Lengths : Type 0
-Lengths = ℕ × ℕ × ℕ
+-- The lengths that a value may have are three numbers: the least, the greatest, and what they are multiples of.
 
-abbrev pub noLengths : Lengths
+abbrev pub noLengths : ℕ × ℕ × ℕ
 noLengths = (1, 0, 1)
 
 -- 01, "TLV types", and 001 section 2.2.7, by which every value has a byte or more: a row for each type.
-abbrev pub lengths : List Lengths
+abbrev pub lengths : List (ℕ × ℕ × ℕ)
 lengths =
     -- 0 Friendly Name: an even number of bytes up to 520
     (2, 520, 2) ∷
@@ -76,11 +74,11 @@ lengths =
     (1, 1, 1) ∷ []
 
 -- a type that the table doesn't have has no length
-unfoldable pub lengthsOf : ℕ → Lengths
+unfoldable pub lengthsOf : ℕ → ℕ × ℕ × ℕ
 lengthsOf t = getD lengths t noLengths
 
 -- n is one of these lengths
-unfoldable pub lengthIn : Lengths → ℕ → Bool
+unfoldable pub lengthIn : ℕ × ℕ × ℕ → ℕ → Bool
 lengthIn l n = leb (l .0) n && (leb n (l .1) && eqb (n % (l .2)) 0)
 
 -- a value of type t may be n bytes long
