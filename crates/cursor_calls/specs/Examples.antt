@@ -3,13 +3,16 @@
 use mathlib.Core.Path.{_≡_, refl}
 use mathlib.Core.Bool.{true}
 use mathlib.Core.List.{[], _∷_}
+use native.Mathlib.Omega.{arith}
+use Rattle.wire.specs.Below.{allBelow}
 use Rattle.wire.specs.Checks.{firstOf}
 use Rattle.wire.specs.LittleEndian.{numberAt}
-use Rattle.wire.specs.Number.{numberIn, bytesIn}
+use Rattle.wire.specs.Number.{numberIn, bytesIn, Bytes}
 use Rattle.wire.specs.Sequence.{isNewer, distance}
 use Rattle.wire.specs.Signed.{signed}
 use Rattle.wire.specs.Laid.{laid}
 use Rattle.wire.specs.Splice.{splice}
+use Rattle.wire.proofs.Laws.Below.{bytes-computed}
 use Rattle.scan.specs.Below.{someBelow}
 use Rattle.scan.specs.Conflict.{conflictIn}
 use Rattle.scan.specs.Empty.{firstEmpty}
@@ -23,13 +26,13 @@ use Rattle.cursor_pointer.specs.Pointer.{movedTo, positionStatus, positioned}
 use Rattle.cursor_picture.specs.Picture.{samePicture, hasRoom, held}
 use Rattle.cursor_picture.specs.Completeness.{firstEmptyOf, completeness}
 use Rattle.cursor_layout.specs.PointerLayout.{pointerOf}
-use Rattle.cursor_layout.specs.PictureLayout.{startBytes, pictureBytes, pictureOf, pictureLeft}
+use Rattle.cursor_layout.specs.PictureLayout.{startBytes, pictureBytes, pictureOf, pictureLeft, PictureFits}
 use Rattle.cursor_store.specs.Judging.{ofOpened, startDiffers, bytesDiffer, openedRules, otherRules, judging}
 use Rattle.cursor_store.specs.Assembling.{storeChecks, storeStatus, openedFor, clearedFor, imageAfter, marksAfter, withStart, pictureAfter, assembledAs, assembled}
 use Rattle.cursor_store.specs.Storing.{moves, pointerAfter, stored}
 use Rattle.cursor_store.specs.Receiver.{run}
 use Rattle.cursor_store.specs.DemandThree.{Given, SameFragments, SameEnd}
-use Rattle.cursor_store.specs.Examples.{position9, whole, opened, last, forwards, backwards}
+use Rattle.cursor_store.specs.Examples.{position9, whole, opened, start, last, forwards, backwards}
 use Rattle.cursor_calls.specs.CursorCalls.{afterPosition, cursorPosition, recordsWhole, pointerLeft, afterStore, cursorStore, cursorComplete}
 use Rattle.cursor_calls.specs.Records.{Lent, called, nextLent, overRecords}
 
@@ -59,6 +62,14 @@ pub records-stay
     ≡ afterStore (record { status = 0; place = 0 }) (lent .pointer) (lent .picture) (lent .image) (0 ∷ 0 ∷ 0 ∷ 1 ∷ 7 ∷ [])
 unfolding cursorStore recordsWhole pointerLeft pictureLeft samePicture sameStart moves stored assembled assembledAs storeStatus storeChecks held hasRoom judging openedRules otherRules ofOpened startDiffers bytesDiffer conflictIn someBelow lesser isNewer distance openedFor clearedFor imageAfter marksAfter withStart pictureAfter pointerAfter splice fragmentChecks fragmentFrame firstOf frameChecks rtpHolds unusedZero numberIn numberAt signed takesType headerLength imageData startOf noStart startIn offsetBits placeOf outside fragmentAs pictureOf pointerOf
 records-stay = refl
+
+-- StoredFits: the record opened by value, and a start
+pub stored-fits : PictureFits (opened .picture) × Bytes (start 30 1)
+unfolding allBelow
+stored-fits = (
+  record { id = omega arith; total = omega arith; opening = omega arith; image = omega arith; x = omega arith; y = omega arith },
+  bytes-computed (start 30 1) refl,
+)
 
 -- RunDecoded, DemandThreeOverRecords: the premises of demand 3 hold of these records and of both lists of `cursor_store Examples`
 abbrev pub PremisesMet : Type 0

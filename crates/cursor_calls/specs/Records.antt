@@ -8,7 +8,10 @@ use lib.Dec.{eqb}
 use lib.ListN.{length}
 use Rattle.wire.specs.Number.{Bytes}
 use Rattle.cursor_layout.specs.PointerLayout.{pointerOf}
-use Rattle.cursor_layout.specs.PictureLayout.{pictureOf}
+use Rattle.cursor_layout.specs.PictureLayout.{pictureOf, PictureFits}
+use Rattle.cursor_fragment.specs.Fragment.{fragmentOf}
+use Rattle.cursor_picture.specs.declared.Picture.{Picture}
+use Rattle.cursor_store.specs.Assembling.{pictureAfter}
 use Rattle.cursor_store.specs.Receiver.{Call, packetOf, Receiver, run}
 use Rattle.cursor_store.specs.Calls.{State, byValue}
 use Rattle.cursor_store.specs.DemandThree.{DemandThree}
@@ -61,6 +64,10 @@ overRecords = record {
 -- the records as values
 abbrev pub decoded : Lent → State
 decoded s = record { pointer = pointerOf (s .pointer); picture = pictureOf (s .picture); image = s .image; marks = s .marks }
+
+-- What an accepted packet makes of a picture's record that fits its layout fits it too: so what is written reads back.
+abbrev pub StoredFits : Type 0
+StoredFits = (q : Picture) (packet : List ℕ) → PictureFits q → Bytes packet → PictureFits (pictureAfter q (fragmentOf packet))
 
 -- A list of exported calls does by its records what it does by value.
 abbrev pub RunDecoded : Type 0

@@ -44,7 +44,7 @@ use Rattle.cursor_layout.proofs.Laws.PictureLayout.{picture-fits, left-reads, l
 use Rattle.host_answers.specs.declared.Yes.{Yes}
 use Rattle.host_answers.specs.Answers.{accepted as acceptedAnswer, refused}
 use Rattle.cursor_calls.specs.CursorCalls.{recordsWhole, pointerLeft, afterStore, cursorStore, yesOrNo, cursorComplete}
-use Rattle.cursor_calls.specs.Records.{Lent, called, nextLent, RecordsLent, PacketsLent, overRecords, decoded, RunDecoded, DemandThreeOverRecords}
+use Rattle.cursor_calls.specs.Records.{Lent, called, nextLent, RecordsLent, PacketsLent, overRecords, decoded, StoredFits, RunDecoded, DemandThreeOverRecords}
 
 -- What an accepted packet leaves fits the layouts.
 
@@ -75,10 +75,6 @@ module _ (packet : List ℕ) (small : Bytes packet) where
     y = number-small true 2 28 packet small;
   }
   started-fits false q fits = fits
-
-  after-fits : (q : Picture) → PictureFits q → PictureFits (pictureAfter q f)
-  unfolding pictureAfter openedFor
-  after-fits q fits = started-fits (isStart packet) (cond (ofOpened q f) q (openedBy f)) (opened-fits (ofOpened q f) q fits)
 
   -- the pointer as the packet sets it
   abbrev set : Pointer
@@ -117,6 +113,12 @@ module _ (packet : List ℕ) (small : Bytes packet) where
         by-test Bytes (moves (pointerOf ps) packet) (laid (pointerBytes after) ps) ps
         (λ e. laid-bytes (pointerBytes after) ps (pointer-bytes after) under)
         (λ e. under)
+
+pub stored-fits : StoredFits
+unfolding pictureAfter openedFor
+stored-fits q packet fits small =
+    let f = fragmentOf packet in
+    started-fits packet small (isStart packet) (cond (ofOpened q f) q (openedBy f)) (opened-fits packet small (ofOpened q f) q fits)
 
 -- One call.
 
@@ -165,7 +167,7 @@ module _ (s : Lent) (r : RecordsLent s) (packet : List ℕ) where
               called-accepted e,
               stored-accepted p q packet (s .image) (s .marks) e,
               pointer-left-reads packet small (s .pointer) (lengths s r .0),
-              left-reads (pictureAfter q (fragmentOf packet)) (s .picture) (after-fits packet small q (picture-fits (s .picture) (r .picture))) (lengths s r .1),
+              left-reads (pictureAfter q (fragmentOf packet)) (s .picture) (stored-fits q packet (picture-fits (s .picture) (r .picture)) small) (lengths s r .1),
             )
         go false e = rw (called-refused e, stored-refused p q packet (s .image) (s .marks) e)
 
