@@ -13,11 +13,11 @@ freshPicture = record { opened = false; id = 0; total = 0; opening = 0; seen = f
 unfoldable pub samePicture : Picture → Picture → Bool
 samePicture a b =
     Bool·beq (a .opened) (b .opened)
-    && (eqb (a .id) (b .id)
-    && (eqb (a .total) (b .total)
-    && (eqb (a .opening) (b .opening)
-    && (Bool·beq (a .seen) (b .seen)
-    && sameStart (a .start) (b .start)))))
+    && eqb (a .id) (b .id)
+    && eqb (a .total) (b .total)
+    && eqb (a .opening) (b .opening)
+    && Bool·beq (a .seen) (b .seen)
+    && sameStart (a .start) (b .start)
 
 -- the total is no larger than 262,144, than the lent picture and than the lent marks, of which the lengths are given
 unfoldable pub hasRoom : ℕ → ℕ → ℕ → Bool

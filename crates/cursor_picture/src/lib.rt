@@ -45,24 +45,14 @@ impl Picture {
 pub fn same(a: Picture, b: Picture) -> bool
     ensures { λ r. ⌜ r ≡ samePicture a b ⌝ }
 {
-    if a.opened != b.opened {
-        return false;
-    }
-    if a.id != b.id {
-        return false;
-    }
-    if a.total != b.total {
-        return false;
-    }
-    if a.opening != b.opening {
-        return false;
-    }
-    if a.seen != b.seen {
-        return false;
-    }
     let old = a.start;
     let new = b.start;
-    start::same(old, new)
+    a.opened == b.opened
+        && a.id == b.id
+        && a.total == b.total
+        && a.opening == b.opening
+        && a.seen == b.seen
+        && start::same(old, new)
 }
 
 // Whether a total is no larger than the largest, the lent picture and the lent marks.

@@ -28,13 +28,13 @@ same-flag false false h = refl
 pub same-picture-is : (a b : Picture) → samePicture a b ≡ true → a ≡ b
 unfolding samePicture
 same-picture-is a b h =
-    let opened = both _ _ h in
-    let id = both _ _ (opened .1) in
-    let total = both _ _ (id .1) in
-    let opening = both _ _ (total .1) in
-    let seen = both _ _ (opening .1) in
-    by-fields (same-flag _ _ (opened .0)) (eqb-true _ _ (id .0)) (eqb-true _ _ (total .0)) (eqb-true _ _ (opening .0)) (same-flag _ _ (seen .0))
-    (same-start-is _ _ (seen .1))
+    let start = both _ _ h in
+    let seen = both _ _ (start .0) in
+    let opening = both _ _ (seen .0) in
+    let total = both _ _ (opening .0) in
+    let id = both _ _ (total .0) in
+    by-fields (same-flag _ _ (id .0)) (eqb-true _ _ (id .1)) (eqb-true _ _ (total .1)) (eqb-true _ _ (opening .1)) (same-flag _ _ (seen .1))
+    (same-start-is _ _ (start .1))
   where
     by-fields : a .opened ≡ b .opened → a .id ≡ b .id → a .total ≡ b .total → a .opening ≡ b .opening → a .seen ≡ b .seen → a .start ≡ b .start
         → record { opened = a .opened; id = a .id; total = a .total; opening = a .opening; seen = a .seen; start = a .start } ≡ b

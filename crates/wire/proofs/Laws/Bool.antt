@@ -1,6 +1,6 @@
 -- Laws of tests. Assumes nothing.
 use Prim.Native.Nat.{ℕ}
-use mathlib.Core.Path.{_≡_, refl}
+use mathlib.Core.Path.{_≡_, refl, _∙_}
 use mathlib.Core.Bool.{Bool, true, false, cond, _&&_}
 use mathlib.Core.Logic.{_⊎_, inl, inr}
 use native.Mathlib.Omega.{arith}
@@ -23,6 +23,13 @@ both false b e = impossible (cc)
 pub and-false : (a : Bool) → a && false ≡ false
 and-false true = refl
 and-false false = refl
+
+-- a test joined to those before it by "and": where they hold it decides, else they do
+pub and-here : (v t w : Bool) → v ≡ true → w ≡ t → w ≡ (v && t)
+and-here v t w e f = rw e f
+
+pub and-before : (v t w : Bool) → v ≡ false → w ≡ v → w ≡ (v && t)
+and-before v t w e f = f ∙ rw e
 
 -- what holds of each outcome of a test holds of the test
 pub by-test : {A : Type 0} (P : A → Type 0) (b : Bool) (x y : A) → (b ≡ true → P x) → (b ≡ false → P y) → P (cond b x y)
