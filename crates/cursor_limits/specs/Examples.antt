@@ -114,7 +114,8 @@ line-means =
     (four (decimal 0 (omega arith)) (decimal 0 (omega arith)) (decimal 8 (omega arith)) (decimal 0 (omega arith)))
     (four (upper 2 (omega arith)) (decimal 3 (omega arith)) (decimal 5 (omega arith)) (decimal 1 (omega arith))))
 
--- AcceptsGrammar, OneMeaning: both are read as what they mean
+-- AcceptsGrammar: both are read as what they mean
+-- OneMeaning: and mean nothing else
 pub accepts
     : (Means word value.NotSupported × (readValue word ≡ answer.Accepted value.NotSupported))
     × (Means line (value.Supported (limits xor.Full)) × (readValue line ≡ answer.Accepted (value.Supported (limits xor.Full))))

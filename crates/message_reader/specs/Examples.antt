@@ -182,7 +182,8 @@ complete t e =
     each-type (λ u. roleOf 3 u ≡ needed → fieldOf handshakeRecord u .present ≡ true) impossible impossible impossible
     (λ f. absurd (let no : ⊥ = omega arith in no)) (λ f. refl) impossible impossible impossible t (type-small 3 t (λ f. omega arith)) e
 
--- AcceptedExactly, ZeroExactly: it is right, and is accepted with that record
+-- AcceptedExactly: it is right, and is accepted with that record
+-- ZeroExactly: so its number is 0
 pub accepted
     : Acceptance handshake handshakeRecord × (readMessage handshake ≡ answer.Accepted handshakeRecord)
     × (numbered (readMessage handshake) ≡ acceptedAs)
