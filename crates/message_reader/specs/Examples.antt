@@ -8,7 +8,7 @@ use mathlib.Core.Logic.{inl, inr}
 use native.Mathlib.Omega.{arith}
 use lib.ListN.{length, replicate}
 use lib.Dec.{eqb}
-use Rattle.wire.specs.Checks.{firstOf}
+use Rattle.wire.specs.Checks.{firstOf, accepted}
 use Rattle.wire.specs.Number.{numberIn}
 use Rattle.wire.specs.Numbered.{acceptedAs}
 use Rattle.wire.specs.declared.status.Status.{Status}
@@ -70,36 +70,36 @@ examples-hold = refl
 
 -- The premises of the theorems are met, most by messages of command 3, whose one needed TLV is a Security Token, type 4.
 
--- RefusedExactly: the condition of each number, at its place, and what is then answered
+-- RefusedExactly: the condition of each number, which is no acceptance, with its place, and what is then answered
 abbrev Met : List ℕ → Status → ℕ → ℕ → Type 0
-Met s st number place = Refusal s st place × (numbered (readMessage s) ≡ record { number = number; place = place })
+Met s st number place = Refusal s st place × (accepted st ≡ false) × (numbered (readMessage s) ≡ record { number = number; place = place })
 
 -- 1: no bytes; four that declare five
 pub before-header : Met [] status.Truncated 1 0
 unfolding numberIn knownCommand firstOf headerStatus readMessage
-before-header = (given.before-header (omega arith), refl)
+before-header = (given.before-header (omega arith), refl, refl)
 
 pub before-size : Met (0 ∷ 5 ∷ 1 ∷ 3 ∷ []) status.Truncated 1 0
 unfolding numberIn knownCommand firstOf headerStatus readMessage
-before-size = (given.before-size (omega arith) (omega arith) (omega arith), refl)
+before-size = (given.before-size (omega arith) (omega arith) (omega arith), refl, refl)
 
 -- 2: a Size of 3; a byte after a Size of 4
 pub below-header : Met (0 ∷ 3 ∷ 1 ∷ 3 ∷ []) status.WrongSize 2 0
 unfolding numberIn knownCommand firstOf headerStatus readMessage
-below-header = (given.below-header (omega arith) (omega arith), refl)
+below-header = (given.below-header (omega arith) (omega arith), refl, refl)
 
 pub left-over : Met (0 ∷ 4 ∷ 1 ∷ 3 ∷ 0 ∷ []) status.WrongSize 2 0
 unfolding numberIn knownCommand firstOf headerStatus readMessage
-left-over = (given.left-over (omega arith) (omega arith), refl)
+left-over = (given.left-over (omega arith) (omega arith), refl, refl)
 
 -- 3: Version 2; 4: command 7
 pub version-2 : Met (0 ∷ 4 ∷ 2 ∷ 3 ∷ []) status.WrongHeader 3 0
 unfolding numberIn knownCommand firstOf headerStatus readMessage
-version-2 = (given.version (omega arith) refl (λ e. omega arith), refl)
+version-2 = (given.version (omega arith) refl (λ e. omega arith), refl, refl)
 
 pub command-7 : Met (0 ∷ 4 ∷ 1 ∷ 7 ∷ []) status.UnknownKind 4 0
 unfolding numberIn knownCommand firstOf headerStatus readMessage
-command-7 = (given.command (omega arith) refl refl refl, refl)
+command-7 = (given.command (omega arith) refl refl refl, refl, refl)
 
 -- 5: one byte for a TLV; a value of one byte that is not there
 pub no-tlv : Met (0 ∷ 5 ∷ 1 ∷ 3 ∷ 4 ∷ []) status.TlvTruncated 5 4
@@ -108,6 +108,7 @@ no-tlv = (
   given.tlv (record { four = omega arith; size = refl; version = refl; command = refl })
       given.start (omega arith) (given.truncated (inl (omega arith))),
   refl,
+  refl,
 )
 
 pub no-value : Met (0 ∷ 7 ∷ 1 ∷ 3 ∷ 4 ∷ 0 ∷ 1 ∷ []) status.TlvTruncated 5 4
@@ -115,6 +116,7 @@ unfolding numberIn rolesOf roleOf lengthsOf lengthIn lengthOk knownCommand field
 no-value = (
   given.tlv (record { four = omega arith; size = refl; version = refl; command = refl })
       given.start (omega arith) (given.truncated (inr (omega arith))),
+  refl,
   refl,
 )
 
@@ -125,6 +127,7 @@ unknown = (
   given.tlv (record { four = omega arith; size = refl; version = refl; command = refl })
       given.start (omega arith) (given.unexpected (omega arith) refl),
   refl,
+  refl,
 )
 
 pub empty-token : Met (0 ∷ 7 ∷ 1 ∷ 3 ∷ 4 ∷ 0 ∷ 0 ∷ []) status.TlvLength 6 4
@@ -132,6 +135,7 @@ unfolding numberIn rolesOf roleOf lengthsOf lengthIn lengthOk knownCommand field
 empty-token = (
   given.tlv (record { four = omega arith; size = refl; version = refl; command = refl })
       given.start (omega arith) (given.length-wrong (omega arith) (λ e. omega arith) refl),
+  refl,
   refl,
 )
 
@@ -143,13 +147,14 @@ two-tokens = (
       (given.next given.start (record { whole = omega arith; expected = λ e. omega arith; fitting = refl; first = refl }))
       (omega arith) (given.repeated (omega arith) (λ e. omega arith) refl refl),
   refl,
+  refl,
 )
 
 -- 8: no Security Token, and the place is the number of bytes
 pub no-token : Met (0 ∷ 4 ∷ 1 ∷ 3 ∷ []) status.TlvUnexpected 8 4
 unfolding numberIn rolesOf roleOf lengthsOf lengthIn lengthOk knownCommand fieldOf withField emptyOf allBelow hasNeeded isComplete firstOf
     headerStatus tlvAt lastOf tlvsFrom readMessage
-no-token = (given.missing 4 (record { four = omega arith; size = refl; version = refl; command = refl }) given.start refl refl, refl)
+no-token = (given.missing 4 (record { four = omega arith; size = refl; version = refl; command = refl }) given.start refl refl, refl, refl)
 
 -- a value of len bytes; a record of command c with this RTSP Port, Source ID and Security Token
 abbrev pub there : ℕ → ℕ → Field
@@ -184,12 +189,12 @@ complete t e =
 
 -- AcceptedExactly: it is right, and is accepted with that record
 -- ZeroExactly: so its number is 0
-pub accepted
+pub handshake-accepted
     : Acceptance handshake handshakeRecord × (readMessage handshake ≡ answer.Accepted handshakeRecord)
     × (numbered (readMessage handshake) ≡ acceptedAs)
 unfolding numberIn rolesOf roleOf lengthsOf lengthIn lengthOk knownCommand fieldOf withField emptyOf allBelow hasNeeded isComplete firstOf
     headerStatus tlvAt lastOf tlvsFrom readMessage
-accepted = (
+handshake-accepted = (
   record {
     headed = record { four = omega arith; size = refl; version = refl; command = refl };
     reached = given.next given.start (record { whole = omega arith; expected = λ e. omega arith; fitting = refl; first = refl });

@@ -55,10 +55,12 @@ unfolding rolesOf roleOf lengthsOf lengthIn lengthOk knownCommand fieldOf tlvSiz
 absent-tlv = (given.absent-tlv 4 refl refl, refl)
 
 -- a Security Token of 65,535 bytes, all of which are lent
-pub too-long
-    : Unwritable 65542 (recordOf 3 absent absent (there 7 65535)) × (writable 65542 (recordOf 3 absent absent (there 7 65535)) ≡ false)
+abbrev long : Message
+long = recordOf 3 absent absent (there 7 65535)
+
+pub too-long : (s : List ℕ) → length s ≡ 65542 → Unwritable (length s) long × (numbered (writeAnswer s long []) ≡ record { number = 18; place = 0 })
 unfolding rolesOf roleOf lengthsOf lengthIn lengthOk knownCommand fieldOf tlvSize sizeTo allBelow fieldOk writable writeAnswer
-too-long = (given.too-long (omega arith), refl)
+too-long s e = (given.too-long (omega arith), rw e refl)
 
 -- a record without such a reason: its one value is the Security Token
 no : {A : Type 0} → false ≡ true → A
