@@ -27,6 +27,7 @@ pub enum Refusal {
     /// 9: negative offset, or offset plus data beyond the total.
     OutsideTotal = 9,
     /// 10: output shorter than needed, or total above 262,144 or above the lent picture or marks.
+    /// Also a message's Source ID that is lent with 1 to 15 bytes.
     NoRoom = 10,
     /// 11: sequence number not newer.
     NotNewer = 11,

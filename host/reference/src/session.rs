@@ -125,6 +125,21 @@ pub fn step(session: Session, event: u8, source_id: Option<[u8; 16]>, option_byt
     }
 }
 
+/// Takes one event as a host lends it, with the Source ID as a run of any number of bytes.
+///
+/// The bytes are looked at only with a message, events 1 to 6: none at all mean that it carries no
+/// Source ID, of 16 or more the first 16 are the Source ID, and 1 to 15 are refused with 10, which
+/// changes nothing. With a host's event, or a number that is no event, any number of bytes is
+/// taken; so 4 comes before that 10.
+pub fn step_lent(session: Session, event: u8, source: &[u8], option_byte: u8) -> Answer {
+    let id = match source.first_chunk() {
+        _ if !message::is_command(event) || source.is_empty() => None,
+        None => return Answer::refused(Refusal::NoRoom.into(), session),
+        id => id.copied(),
+    };
+    step(session, event, id, option_byte)
+}
+
 /// The table for an open session: the next state and options, or `None` for an unexpected event.
 fn next(session: &Session, event: u8, option_byte: u8) -> Option<(State, u8)> {
     use State::*;

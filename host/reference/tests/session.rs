@@ -3,7 +3,7 @@
 mod common;
 
 use common::{accepted_messages, id, message, name, port, tlv};
-use reference::session::{on_message, step, Answer, Session, State};
+use reference::session::{on_message, step, step_lent, Answer, Session, State};
 use reference::Refusal;
 
 const ONE: [u8; 16] = [1; 16];
@@ -209,6 +209,73 @@ fn only_an_accepted_pin_challenge_asks_for_a_check() {
             let asks = step(session(state), event, None, 0).check_pin;
             assert_eq!(asks, state == State::PinWait && event == 5);
         }
+    }
+}
+
+#[test]
+fn a_lent_source_of_any_length() {
+    let source: Vec<u8> = (1..=40).collect();
+    let first: [u8; 16] = source[..16].try_into().unwrap();
+    for length in 0..=source.len() {
+        for state in State::ALL {
+            for (id_kept, source_id) in [(false, ONE), (true, ONE), (true, first)] {
+                let before = Session { state, id_kept, source_id, options: 2 };
+                for event in 0..=255 {
+                    let lent = step_lent(before, event, &source[..length], 3);
+                    let expected = match (event, length) {
+                        (1..=6, 0) => step(before, event, None, 3),
+                        (1..=6, 1..=15) => Answer {
+                            number: Refusal::NoRoom,
+                            place: 0,
+                            check_pin: false,
+                            session: before,
+                        },
+                        (1..=6, _) => step(before, event, Some(first), 3),
+                        _ => step(before, event, None, 3),
+                    };
+                    assert_eq!(lent, expected, "{before:?} {event}, {length} bytes");
+                }
+            }
+        }
+    }
+}
+
+#[test]
+fn a_lent_source_of_1_to_15_bytes_is_10_with_a_message_only() {
+    let before = Session { id_kept: true, source_id: ONE, options: 2, ..session(State::Waiting) };
+    let request = step_lent(before, 4, &[1; 5], 3);
+    assert_eq!((request.number, request.place), (Refusal::NoRoom, 0));
+    assert_eq!(request.session, before);
+    // Also where the step itself would be refused.
+    let closed = Session { state: State::Closed, ..before };
+    assert_eq!(step_lent(closed, 4, &[1; 5], 3).number, Refusal::NoRoom);
+    let unexpected = step_lent(before, 6, &[1; 15], 3);
+    assert_eq!((unexpected.number, unexpected.session), (Refusal::NoRoom, before));
+
+    let lost = step_lent(before, 10, &[1; 5], 3);
+    assert_eq!(seen(lost), (0, State::Closed));
+    assert_eq!(lost.session, Session { state: State::Closed, ..before });
+    let handshake = Session { state: State::Handshake, ..before };
+    assert_eq!(seen(step_lent(handshake, 7, &[2; 5], 3)), (0, State::PinWait));
+
+    for event in [0, 11, 255] {
+        let none = step_lent(before, event, &[1; 5], 3);
+        assert_eq!((none.number, none.session), (Refusal::UnknownKind, before));
+    }
+}
+
+#[test]
+fn of_a_longer_lent_source_the_first_16_bytes_are_taken() {
+    for length in [16, 17, 40] {
+        let mut source = vec![9; length];
+        source[..16].copy_from_slice(&ONE);
+        let request = step_lent(Session::fresh(), 4, &source, 3);
+        assert_eq!(seen(request), (0, State::Handshake));
+        let kept = Session { id_kept: true, source_id: ONE, options: 3, state: State::Handshake };
+        assert_eq!(request.session, kept);
+        assert_eq!(step_lent(kept, 3, &source, 0).number, Refusal::Accepted);
+        source[15] = 2;
+        assert_eq!(step_lent(kept, 3, &source, 0).number, Refusal::OtherSource);
     }
 }
 
