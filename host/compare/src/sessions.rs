@@ -30,15 +30,15 @@ fn lent(record: &[u8; SESSION]) -> [u8; SESSION + 2] {
     lent
 }
 
+/// Compares a step through `sys`, and answers with the record afterwards.
 fn compare(
     tally: &mut Tally,
     call: Call,
     before: &[u8; SESSION],
     expected: &Answer,
     run: impl Fn(&mut [u8]) -> sys::Step,
-    run_wrapped: impl Fn(&mut Session) -> Result<ashlarsilk::Accepted, ashlarsilk::Refused>,
     input: impl Fn() -> String,
-) {
+) -> [u8; SESSION] {
     let number = expected.number.number();
     let left = left_by(before, expected);
     tally.count(call, number);
@@ -51,12 +51,25 @@ fn compare(
     let answer = (step.status, step.check, step.place);
     tally.expect(call, "answer", answer, (number, check, expected.place), &input);
     tally.expect(call, "record", record, lent(&left), &input);
+    left
+}
 
+/// Compares the same step through the wrapper.
+fn compare_wrapped(
+    tally: &mut Tally,
+    call: Call,
+    before: &[u8; SESSION],
+    expected: &Answer,
+    run: impl Fn(&mut Session) -> Result<ashlarsilk::Accepted, ashlarsilk::Refused>,
+    input: impl Fn() -> String,
+) {
     let mut session = Session::from_bytes(*before);
-    let answer = run_wrapped(&mut session);
-    tally.expect(call, "wrapped answer", wrapped(&answer), (number, expected.place), &input);
+    let answer = run(&mut session);
+    let outcome = (expected.number.number(), expected.place);
+    tally.expect(call, "wrapped answer", wrapped(&answer), outcome, &input);
     let check_pin = answer.is_ok_and(|accepted| accepted.check_pin);
     tally.expect(call, "wrapped check", check_pin, expected.check_pin, &input);
+    let left = left_by(before, expected);
     tally.expect(call, "wrapped record", *session.as_bytes(), left, &input);
 
     let said = (session.state() as u8, session.options(), session.source_id().map(|id| id.0));
@@ -66,7 +79,28 @@ fn compare(
     tally.expect(call, "what the session says", said, expected, &input);
 }
 
-/// Compares a step with an event, and answers with the record afterwards.
+/// Compares a step with an event and a Source ID lent as any number of bytes, and answers with the
+/// record afterwards.
+fn check_lent(
+    tally: &mut Tally,
+    before: &[u8; SESSION],
+    event: u8,
+    source: &[u8],
+    options: u8,
+) -> [u8; SESSION] {
+    let expected = session::step_lent(layout::session_in(before), event, source, options);
+    compare(
+        tally,
+        Call::SessionStep,
+        before,
+        &expected,
+        |record| sys::session_step(record, event, source, options),
+        || format!("{} with event {event}, source {source:?}, options {options}", hex(before)),
+    )
+}
+
+/// Compares a step with an event that carries a Source ID or none, and answers with the record
+/// afterwards.
 fn check_step(
     tally: &mut Tally,
     before: &[u8; SESSION],
@@ -75,33 +109,27 @@ fn check_step(
     options: u8,
 ) -> [u8; SESSION] {
     let expected = session::step(layout::session_in(before), event, source, options);
-    let bytes = source.as_ref().map_or(&[][..], |source| source);
     let id = source.map(SourceId);
-    compare(
+    compare_wrapped(
         tally,
         Call::SessionStep,
         before,
         &expected,
-        |record| sys::session_step(record, event, bytes, options),
         |session| session.step(Event(event), id.as_ref(), options),
         || format!("{} with event {event}, source {source:?}, options {options}", hex(before)),
     );
-    left_by(before, &expected)
+    let bytes = source.as_ref().map_or(&[][..], |source| source);
+    check_lent(tally, before, event, bytes, options)
 }
 
 /// Compares a step with a message, and answers with the record afterwards.
 fn check_message(tally: &mut Tally, before: &[u8; SESSION], bytes: &[u8]) -> [u8; SESSION] {
+    let call = Call::SessionMessage;
     let expected = session::on_message(layout::session_in(before), bytes);
-    compare(
-        tally,
-        Call::SessionMessage,
-        before,
-        &expected,
-        |record| sys::session_message(record, bytes),
-        |session| session.message(bytes),
-        || format!("{} with {}", hex(before), hex(bytes)),
-    );
-    left_by(before, &expected)
+    let input = || format!("{} with {}", hex(before), hex(bytes));
+    compare_wrapped(tally, call, before, &expected, |session| session.message(bytes), input);
+    let run = |record: &mut [u8]| sys::session_message(record, bytes);
+    compare(tally, call, before, &expected, run, input)
 }
 
 pub fn run(tally: &mut Tally, random: &mut Random) {
@@ -110,6 +138,7 @@ pub fn run(tally: &mut Tally, random: &mut Random) {
     every_option(tally, random);
     walks(tally, random);
     messages(tally, random);
+    sources_of_any_length(tally, random);
     short(tally, random);
 }
 
@@ -227,62 +256,53 @@ fn messages(tally: &mut Tally, random: &mut Random) {
     }
 }
 
-/// Records shorter than the layout, and a source of 1 to 15 bytes: 10 before anything else, and
-/// nothing is changed. Of a longer source the first 16 bytes are taken.
-fn short(tally: &mut Tally, random: &mut Random) {
-    let message = right_messages(random).swap_remove(0);
-    for length in 0..SESSION {
-        for event in 0..12 {
-            let before = random.bytes(length);
-            let input = || format!("{length} bytes, event {event}");
-            for source in [&[][..], &[7; 16], &[7; 3]] {
-                let call = Call::SessionStep;
-                let mut record = before.clone();
-                let step = sys::session_step(&mut record, event, source, 0);
-                tally.count_short(call);
-                let answer = (step.status, step.check, step.place);
-                tally.expect(call, "short", answer, (10, 0, 0), input);
-                tally.expect(call, "short record", &record, &before, input);
-            }
-            for bytes in [&message[..], &message[..5], &[]] {
-                let call = Call::SessionMessage;
-                let mut record = before.clone();
-                let step = sys::session_message(&mut record, bytes);
-                tally.count_short(call);
-                let answer = (step.status, step.check, step.place);
-                tally.expect(call, "short", answer, (10, 0, 0), input);
-                tally.expect(call, "short record", &record, &before, input);
+/// A Source ID lent as 0 to 40 bytes with every event, in every state, where one is kept and where
+/// not. Those of its first 16 bytes that are there are the record's, or one of them is not.
+fn sources_of_any_length(tally: &mut Tally, random: &mut Random) {
+    let mut source = random.bytes(40);
+    for length in 0..=source.len() {
+        for event in 0..=255 {
+            for state in 0..=255 {
+                for kept in [0, 1, 2 + random.byte() % 254] {
+                    let mut before: [u8; SESSION] = random.array();
+                    before[0] = state;
+                    before[2] = kept;
+                    source[..16].copy_from_slice(&before[3..]);
+                    if random.flag() {
+                        source[random.below(length.clamp(1, 16))] ^= 1 << random.below(8);
+                    }
+                    check_lent(tally, &before, event, &source[..length], random.byte());
+                }
             }
         }
     }
-    for length in 1..40 {
-        for event in 0..=255 {
-            let mut before: [u8; SESSION] = random.array();
-            before[0] = random.below(6) as u8;
-            before[2] = random.below(2) as u8;
-            let source = random.bytes(length);
-            let mut record = before;
-            let options = random.byte();
-            let step = sys::session_step(&mut record, event, &source, options);
+}
+
+/// Records shorter than the layout: 10 before anything else, whatever the event, its source and
+/// the message, and nothing is changed.
+fn short(tally: &mut Tally, random: &mut Random) {
+    let source = random.bytes(40);
+    let right = right_messages(random).swap_remove(0);
+    for length in 0..SESSION {
+        let before = random.bytes(length);
+        let mut compare = |call, run: &dyn Fn(&mut [u8]) -> sys::Step, what: &str| {
+            let input = || format!("{length} bytes, {what}");
+            let mut record = before.clone();
+            let step = run(&mut record);
+            tally.count_short(call);
             let answer = (step.status, step.check, step.place);
-            let call = Call::SessionStep;
-            let input = || format!("{} with event {event}, source {source:?}", hex(&before));
-            match source.first_chunk() {
-                None => {
-                    tally.count_short(call);
-                    tally.expect(call, "short source", answer, (10, 0, 0), input);
-                    tally.expect(call, "short source: record", record, before, input);
-                }
-                Some(id) => {
-                    let session = layout::session_in(&before);
-                    let expected = session::step(session, event, Some(*id), options);
-                    let number = expected.number.number();
-                    let check = u8::from(expected.check_pin);
-                    tally.expect(call, "long source", answer, (number, check, 0), input);
-                    let left = left_by(&before, &expected);
-                    tally.expect(call, "long source: record", record, left, input);
-                }
+            tally.expect(call, "short", answer, (10, 0, 0), input);
+            tally.expect(call, "short record", &record, &before, input);
+        };
+        for event in 0..=255 {
+            for lent in 0..=source.len() {
+                let run = |record: &mut [u8]| sys::session_step(record, event, &source[..lent], 0);
+                compare(Call::SessionStep, &run, &format!("event {event}, source of {lent} bytes"));
             }
+        }
+        for bytes in [&right[..], &right[..5], &[]] {
+            let run = |record: &mut [u8]| sys::session_message(record, bytes);
+            compare(Call::SessionMessage, &run, &hex(bytes));
         }
     }
 }

@@ -77,10 +77,10 @@ const RULES: [Rule; 15] = [
     Rule {
         call: Call::SessionStep,
         name: "session_step",
-        numbers: &[0, 4, 14, 15],
+        numbers: &[0, 4, 10, 14, 15],
         paper: "Everything else is 14 and goes to Closed. A number that is no event is 4 in any \
                 state, tested first. In an open state a message carrying a different one is 15, \
-                tested before the table.",
+                tested before the table. (A message's Source ID lent with 1 to 15 bytes is 10.)",
     },
     Rule {
         call: Call::SessionMessage,
