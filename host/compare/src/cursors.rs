@@ -22,6 +22,7 @@ pub fn run(tally: &mut Tally, random: &mut Random) {
     storing::damaged_fragments(tally, random);
     storing::totals_and_offsets(tally, random);
     storing::conflicts_at_each_place(tally, random);
+    storing::flags_of_any_byte(tally, random);
     completeness::empty_marks_at_each_place(tally, random);
     storing::any_calls(tally, random);
     storing::streams(tally, random);

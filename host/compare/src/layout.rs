@@ -115,3 +115,44 @@ pub fn picture_in(bytes: &[u8; PICTURE]) -> Picture {
         hot_y: u16_at(bytes, 13),
     }
 }
+
+/// A record after a call.
+#[derive(Clone, Copy)]
+pub struct Left<const N: usize> {
+    pub bytes: [u8; N],
+    /// Whether the call leaves every byte of it as lent.
+    pub alone: bool,
+    /// Whether it was lent in another form than the usual one. Only such a record shows whether a
+    /// call that changes nothing in it writes it.
+    pub unusual: bool,
+}
+
+/// The record after a call that accepts and leaves the value `after`, or that refuses.
+///
+/// A refusal changes no byte (demand 1). An accepted call writes a record only where its value
+/// changes, and then in the usual form: flags 0 or 1, states 0 to 5.
+fn left<const N: usize, T: PartialEq>(
+    lent: &[u8; N],
+    before: T,
+    after: Option<&T>,
+    usual: fn(&T) -> [u8; N],
+) -> Left<N> {
+    let changed = after.filter(|after| **after != before);
+    Left {
+        bytes: changed.map_or(*lent, usual),
+        alone: changed.is_none(),
+        unusual: usual(&before) != *lent,
+    }
+}
+
+pub fn session_left(lent: &[u8; SESSION], after: Option<&Session>) -> Left<SESSION> {
+    left(lent, session_in(lent), after, session)
+}
+
+pub fn pointer_left(lent: &[u8; POINTER], after: Option<&Pointer>) -> Left<POINTER> {
+    left(lent, pointer_in(lent), after, pointer)
+}
+
+pub fn picture_left(lent: &[u8; PICTURE], after: Option<&Picture>) -> Left<PICTURE> {
+    left(lent, picture_in(lent), after, picture)
+}

@@ -5,10 +5,15 @@
 //! takes records of any length. The inputs come from a generator with a seed, so that a run can be
 //! repeated. [`Comparison::faults`] is empty if nothing differs, each call gave every number that
 //! paper 01 lets it give, and none gave another.
+//!
+//! A record is written only where it changes. So each call that changes a record in place is also
+//! lent records in an unusual form, with flags that are neither 0 nor 1: they must be left so by an
+//! accepted call that changes nothing in them, and such calls must have occurred.
 
 #![forbid(unsafe_code)]
 
 mod cursors;
+mod forms;
 mod layout;
 mod limits_values;
 mod making;
@@ -54,7 +59,8 @@ impl Comparison {
 }
 
 /// The table of answers: a line a call, a column a number; in the last column how often a record
-/// shorter than its layout was refused with 10.
+/// shorter than its layout was refused with 10. Then a table of the records lent in an unusual
+/// form: how often each was left alone, and how often written.
 impl fmt::Display for Comparison {
     fn fmt(&self, f: &mut fmt::Formatter<'_>) -> fmt::Result {
         self.tally.fmt(f)

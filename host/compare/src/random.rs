@@ -38,6 +38,13 @@ impl Random {
         choices[self.below(choices.len())]
     }
 
+    /// Where a flag says yes, another byte that does, now and then.
+    pub fn other_yes(&mut self, flag: &mut u8) {
+        if *flag != 0 && self.once_in(4) {
+            *flag = self.pick(&[1, 2, 7, 128, 255]);
+        }
+    }
+
     pub fn array<const N: usize>(&mut self) -> [u8; N] {
         std::array::from_fn(|_| self.byte())
     }

@@ -1,25 +1,40 @@
 //! The sink's session: steps with events and with messages.
 
 use ashlarsilk::{sys, Event, Session, SourceId};
+use reference::message::{PIN_CHALLENGE, SECURITY_HANDSHAKE, STOP_PROJECTION};
 use reference::session::{self, Answer, State};
+use reference::Refusal;
 
-use crate::layout::{self, SESSION};
+use crate::layout::{self, Left, SESSION};
+use crate::making::{message, tlv};
 use crate::messages::{any_message, right_messages};
 use crate::random::Random;
 use crate::tally::{hex, wrapped, Call, Tally};
 
 const AFTER: [u8; 2] = [0xA5, 0x5A];
 
-/// The record as a step must leave it. An accepted step writes it in its usual form. A refusal
+/// The record as a step must leave it. An accepted step writes it only where it changes. A refusal
 /// changes no byte (demand 1), but for 14 in an open session, which changes the state's name only.
-fn left_by(before: &[u8; SESSION], answer: &Answer) -> [u8; SESSION] {
-    let mut left = *before;
-    match answer.number.number() {
-        0 => left = layout::session(&answer.session),
-        14 if before[0] < 5 => left[0] = 5,
-        _ => {}
+fn left_by(before: &[u8; SESSION], answer: &Answer) -> Left<SESSION> {
+    let accepted = answer.number == Refusal::Accepted;
+    let mut left = layout::session_left(before, accepted.then_some(&answer.session));
+    if answer.number == Refusal::Unexpected && before[0] < 5 {
+        left.bytes[0] = 5;
+        left.alone = false;
     }
     left
+}
+
+/// The case that this is, should the record be lent in an unusual form.
+fn case(before: &[u8; SESSION], event: u8, number: Refusal) -> &'static str {
+    match (number, event) {
+        (Refusal::Accepted, SECURITY_HANDSHAKE) => "session, Security Handshake accepted",
+        (Refusal::Accepted, PIN_CHALLENGE) => "session, PIN Challenge accepted",
+        (Refusal::Accepted, _) => "session, another event accepted",
+        (Refusal::Unexpected, _) if before[0] < 5 => "session, open, refused with 14",
+        (Refusal::Unexpected, _) if before[0] > 5 => "session, state above 5, refused with 14",
+        _ => "session, refused otherwise",
+    }
 }
 
 /// The record with bytes after it, which no call may change.
@@ -30,11 +45,12 @@ fn lent(record: &[u8; SESSION]) -> [u8; SESSION + 2] {
     lent
 }
 
-/// Compares a step through `sys`, and answers with the record afterwards.
+/// Compares a step of this event through `sys`, and answers with the record afterwards.
 fn compare(
     tally: &mut Tally,
     call: Call,
     before: &[u8; SESSION],
+    event: u8,
     expected: &Answer,
     run: impl Fn(&mut [u8]) -> sys::Step,
     input: impl Fn() -> String,
@@ -42,16 +58,17 @@ fn compare(
     let number = expected.number.number();
     let left = left_by(before, expected);
     tally.count(call, number);
+    tally.forms.count(call, case(before, event, expected.number), &left);
     // The reference says the same of the session.
-    tally.expect(call, "session", layout::session_in(&left), expected.session, &input);
+    tally.expect(call, "session", layout::session_in(&left.bytes), expected.session, &input);
 
     let mut record = lent(before);
     let step = run(&mut record);
     let check = u8::from(expected.check_pin);
     let answer = (step.status, step.check, step.place);
     tally.expect(call, "answer", answer, (number, check, expected.place), &input);
-    tally.expect(call, "record", record, lent(&left), &input);
-    left
+    tally.expect(call, "record", record, lent(&left.bytes), &input);
+    left.bytes
 }
 
 /// Compares the same step through the wrapper.
@@ -69,7 +86,7 @@ fn compare_wrapped(
     tally.expect(call, "wrapped answer", wrapped(&answer), outcome, &input);
     let check_pin = answer.is_ok_and(|accepted| accepted.check_pin);
     tally.expect(call, "wrapped check", check_pin, expected.check_pin, &input);
-    let left = left_by(before, expected);
+    let left = left_by(before, expected).bytes;
     tally.expect(call, "wrapped record", *session.as_bytes(), left, &input);
 
     let said = (session.state() as u8, session.options(), session.source_id().map(|id| id.0));
@@ -93,6 +110,7 @@ fn check_lent(
         tally,
         Call::SessionStep,
         before,
+        event,
         &expected,
         |record| sys::session_step(record, event, source, options),
         || format!("{} with event {event}, source {source:?}, options {options}", hex(before)),
@@ -128,8 +146,9 @@ fn check_message(tally: &mut Tally, before: &[u8; SESSION], bytes: &[u8]) -> [u8
     let expected = session::on_message(layout::session_in(before), bytes);
     let input = || format!("{} with {}", hex(before), hex(bytes));
     compare_wrapped(tally, call, before, &expected, |session| session.message(bytes), input);
+    let command = bytes.get(3).copied().unwrap_or(0);
     let run = |record: &mut [u8]| sys::session_message(record, bytes);
-    compare(tally, call, before, &expected, run, input)
+    compare(tally, call, before, command, &expected, run, input)
 }
 
 pub fn run(tally: &mut Tally, random: &mut Random) {
@@ -138,6 +157,7 @@ pub fn run(tally: &mut Tally, random: &mut Random) {
     every_option(tally, random);
     walks(tally, random);
     messages(tally, random);
+    the_same_session(tally, random);
     sources_of_any_length(tally, random);
     short(tally, random);
 }
@@ -217,6 +237,7 @@ fn walks(tally: &mut Tally, random: &mut Random) {
                 if random.once_in(10) { random.below(12) as u8 } else { random.pick(expected) };
             let source = random.pick(&[None, Some([7; 16]), Some([7; 16]), Some([8; 16])]);
             record = check_step(tally, &record, event, source, random.pick(&[0, 1, 2, 3, 255]));
+            random.other_yes(&mut record[2]);
         }
     }
 }
@@ -226,7 +247,7 @@ fn messages(tally: &mut Tally, random: &mut Random) {
     for _ in 0..200_000 {
         let mut before: [u8; SESSION] = random.array();
         before[0] = random.pick(&[0, 0, 1, 2, 3, 4, 5, 6, 255]);
-        before[2] = random.pick(&[0, 0, 1, 255]);
+        before[2] = random.pick(&[0, 0, 1, 7, 255]);
         let bytes = any_message(random);
         // Often the record keeps the message's own Source ID.
         let carried =
@@ -252,6 +273,33 @@ fn messages(tally: &mut Tally, random: &mut Random) {
         let mut record = layout::session(&session::Session::fresh());
         for _ in 0..6 {
             record = check_message(tally, &record, &any_message(random));
+            random.other_yes(&mut record[2]);
+        }
+    }
+}
+
+/// Steps that leave the session as it is, with each byte that says whether a Source ID is kept: a
+/// Security Handshake in Handshake and a PIN Challenge in PinWait, each with the kept Source ID and
+/// without. Each is taken twice; then a Stop Projection changes the session.
+fn the_same_session(tally: &mut Tally, random: &mut Random) {
+    for kept in 0..=255 {
+        for (state, event, value) in [(1, SECURITY_HANDSHAKE, 4), (2, PIN_CHALLENGE, 6)] {
+            let mut before: [u8; SESSION] = random.array();
+            (before[0], before[2]) = (state, kept);
+            let source: [u8; 16] = before[3..].try_into().expect("16 bytes");
+            for source in [None, Some(source)] {
+                let record = check_step(tally, &before, event, source, random.byte());
+                let record = check_step(tally, &record, event, source, random.byte());
+                check_step(tally, &record, STOP_PROJECTION, source, random.byte());
+            }
+            let (id, value) = (tlv(3, &source), tlv(value, &random.bytes(32)));
+            for tlvs in [&[id.clone(), value.clone()][..], &[value]] {
+                let bytes = message(event, tlvs);
+                let record = check_message(tally, &before, &bytes);
+                let record = check_message(tally, &record, &bytes);
+                let stop = message(STOP_PROJECTION, &[tlv(0, &[65, 0]), id.clone()]);
+                check_message(tally, &record, &stop);
+            }
         }
     }
 }

@@ -5,6 +5,8 @@ use std::fmt::{self, Debug, Write};
 
 use reference::Refused;
 
+use crate::forms::Forms;
+
 /// The exported calls.
 #[derive(Clone, Copy, Debug, PartialEq, Eq)]
 pub enum Call {
@@ -139,6 +141,12 @@ const RULES: [Rule; 15] = [
     },
 ];
 
+impl Call {
+    pub fn name(self) -> &'static str {
+        RULES[self as usize].name
+    }
+}
+
 // The rule of a call stands at the call's number.
 const _: () = {
     let mut number = 0;
@@ -157,6 +165,8 @@ pub struct Tally {
     counts: [[u64; 19]; RULES.len()],
     /// For each call, how often it refused a short record with 10.
     short: [u64; RULES.len()],
+    /// What became of records lent in an unusual form.
+    pub forms: Forms,
     /// For each call, how often it differs from the reference.
     differences: [u64; RULES.len()],
     described: Vec<String>,
@@ -188,7 +198,7 @@ impl Tally {
         }
         self.differences[call as usize] += 1;
         if self.differences[call as usize] <= DESCRIBED {
-            let name = RULES[call as usize].name;
+            let name = call.name();
             let mut text = format!("{name}, {what}: {library:?}, expected {expected:?}");
             // A large picture is not shown byte by byte.
             cut(&mut text, 1000);
@@ -204,8 +214,8 @@ impl Tally {
         self.counts.iter().flatten().chain(&self.short).sum()
     }
 
-    /// What is wrong: differences, numbers that a call can give and never gave, and numbers that
-    /// it can't give and gave.
+    /// What is wrong: differences, numbers that a call can give and never gave, numbers that it
+    /// can't give and gave, and the same of what it does with a record in an unusual form.
     pub fn faults(&self) -> Vec<String> {
         let mut faults = self.described.clone();
         for (rule, differences) in RULES.iter().zip(self.differences) {
@@ -227,6 +237,7 @@ impl Tally {
                 faults.push(format!("{name} was lent no short record"));
             }
         }
+        faults.extend(self.forms.faults());
         faults
     }
 }
@@ -238,7 +249,7 @@ fn cut(text: &mut String, length: usize) {
     }
 }
 
-/// The table: a line a call, a column a number that any call gives.
+/// The table: a line a call, a column a number that any call gives. Then that of the forms.
 impl fmt::Display for Tally {
     fn fmt(&self, f: &mut fmt::Formatter<'_>) -> fmt::Result {
         write!(f, "{:24}", "call")?;
@@ -257,7 +268,7 @@ impl fmt::Display for Tally {
             }
             writeln!(f, " {short:>7}")?;
         }
-        Ok(())
+        self.forms.fmt(f)
     }
 }
 

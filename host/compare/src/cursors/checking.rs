@@ -47,6 +47,13 @@ impl Kept {
         Self::fresh(random, image, marks)
     }
 
+    /// Where a flag of the records says yes, another byte that does, now and then.
+    pub fn other_yes(&mut self, random: &mut Random) {
+        random.other_yes(&mut self.pointer[0]);
+        random.other_yes(&mut self.picture[0]);
+        random.other_yes(&mut self.picture[9]);
+    }
+
     pub fn describe(&self) -> String {
         format!(
             "pointer {}, picture {}, image ({} bytes) {}, marks ({} bytes) {}",
@@ -68,9 +75,10 @@ pub fn check_position(tally: &mut Tally, pointer: &mut [u8; POINTER], packet: &[
     let expected = cursor::position(layout::pointer_in(pointer), packet);
     let answer = outcome(&expected);
     tally.count(call, answer.0);
-    if let Ok(moved) = &expected {
-        *pointer = layout::pointer(moved);
-    }
+    let left = layout::pointer_left(&before, expected.as_ref().ok());
+    let case = if expected.is_ok() { "pointer, position accepted" } else { "pointer, refused" };
+    tally.forms.count(call, case, &left);
+    *pointer = left.bytes;
 
     let mut record = [0xA5; POINTER + 2];
     record[..POINTER].copy_from_slice(&before);
@@ -132,16 +140,24 @@ pub fn check_store(tally: &mut Tally, kept: &mut Kept, packet: &[u8]) -> u8 {
     );
     let answer = outcome(&expected);
     tally.count(call, answer.0);
-    match &expected {
-        Ok((pointer, picture)) => {
-            kept.pointer = layout::pointer(pointer);
-            kept.picture = layout::picture(picture);
-        }
-        Err(_) => {
-            let same = *kept == before;
-            tally.expect(call, "the reference after a refusal", same, true, input);
-        }
+    if expected.is_err() {
+        let same = *kept == before;
+        tally.expect(call, "the reference after a refusal", same, true, input);
     }
+    let (pointer, picture) = expected.as_ref().ok().copied().unzip();
+    let pointer = layout::pointer_left(&before.pointer, pointer.as_ref());
+    let picture = layout::picture_left(&before.picture, picture.as_ref());
+    let (of_pointer, of_picture) = match expected {
+        Err(_) => ("pointer, refused", "picture, refused"),
+        Ok(_) if packet[12] == cursor::START => {
+            ("pointer, start accepted", "picture, start accepted")
+        }
+        Ok(_) => ("pointer, continuation accepted", "picture, continuation accepted"),
+    };
+    tally.forms.count(call, of_pointer, &pointer);
+    tally.forms.count(call, of_picture, &picture);
+    kept.pointer = pointer.bytes;
+    kept.picture = picture.bytes;
 
     let (mut pointer, mut picture) = (lent(&before.pointer), lent(&before.picture));
     let (mut image, mut marks) = (before.image.clone(), before.marks.clone());

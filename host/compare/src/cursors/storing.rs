@@ -192,11 +192,46 @@ pub fn conflicts_at_each_place(tally: &mut Tally, random: &mut Random) {
     }
 }
 
+/// Flags of many bytes, with fragments that change the pointer and the picture's record, one of
+/// them or none: continuations, first and repeated starts, newer than the pointer and not, of the
+/// opened picture and another. Each is taken twice.
+pub fn flags_of_any_byte(tally: &mut Tally, random: &mut Random) {
+    const FLAGS: [u8; 7] = [0, 1, 2, 7, 127, 128, 255];
+    let mut kept = Kept::fresh(random, 8, 8);
+    let opened = Picture { id: 7, total: 6, opening_sequence: 400, ..Picture::fresh() };
+    let seen = Picture { image_type: 3, hot_x: 18, hot_y: 15, ..opened };
+    for record in [opened, seen] {
+        kept.pointer = layout::pointer(&Pointer { known: true, last: 500, x: 12, y: -10 });
+        kept.picture = layout::picture(&record);
+        for flags in 0..FLAGS.len().pow(3) {
+            kept.pointer[0] = FLAGS[flags % 7];
+            kept.picture[0] = FLAGS[flags / 7 % 7];
+            kept.picture[9] = FLAGS[flags / 49];
+            for (sequence, id) in [(500, 7), (501, 7), (300, 7), (401, 8), (501, 8), (400, 8)] {
+                for (kind, place) in [
+                    (START, 0),
+                    (Kind::Continuation { offset: 0 }, 0),
+                    (Kind::Continuation { offset: 2 }, 2),
+                ] {
+                    for length in [0, 4] {
+                        // What stands there, so that no place conflicts.
+                        let data = &kept.image[place..place + length];
+                        let bytes = fragment(Fragment { sequence, id, total: 6, kind }, data);
+                        let mut kept = kept.clone();
+                        check_store(tally, &mut kept, &bytes);
+                        check_store(tally, &mut kept, &bytes);
+                    }
+                }
+            }
+        }
+    }
+}
+
 /// Any packets with records in any state, pictures and marks of any length.
 pub fn any_calls(tally: &mut Tally, random: &mut Random) {
     for _ in 0..400_000 {
         let mut pointer: [u8; POINTER] = random.array();
-        pointer[0] = random.pick(&[0, 1, 1, 2]);
+        pointer[0] = random.pick(&[0, 1, 1, 2, 7, 255]);
         pointer[1..3].copy_from_slice(&random.pick(&TURNS).to_le_bytes());
         let mut picture = layout::picture(&Picture {
             open: true,
@@ -208,8 +243,8 @@ pub fn any_calls(tally: &mut Tally, random: &mut Random) {
             hot_x: random.pick(&[18, 18, 18, 1]),
             hot_y: random.pick(&[15, 15, 15, 1]),
         });
-        picture[0] = random.pick(&[0, 1, 1, 1, 77]);
-        picture[9] = random.pick(&[0, 1, 1, 77]);
+        picture[0] = random.pick(&[0, 1, 1, 1, 7, 77, 255]);
+        picture[9] = random.pick(&[0, 1, 1, 7, 77, 255]);
         let (image, marks) = (random.pick(&[0, 3, 4, 5, 6, 7]), random.pick(&[0, 4, 5, 6, 7]));
         let mut kept = Kept {
             pointer,
@@ -252,6 +287,7 @@ pub fn streams(tally: &mut Tally, random: &mut Random) {
                 bytes[place] = random.byte();
             }
             check_store(tally, &mut kept, &bytes);
+            kept.other_yes(random);
             if random.once_in(4) {
                 check_position(tally, &mut kept.pointer, &position(late, 3, 4));
             }
@@ -282,6 +318,10 @@ pub fn any_order(tally: &mut Tally, random: &mut Random) {
         let opener = Fragment { sequence: 1, id: 7, total: total as u32, kind: opener };
         let mut opened = Kept::with_room(random, total, 2);
         check_store(tally, &mut opened, &fragment(opener, &[]));
+        if random.once_in(4) {
+            check_store(tally, &mut opened, &fragment(Fragment { kind: START, ..opener }, &[]));
+        }
+        opened.other_yes(random);
 
         let mut left: Vec<Kept> = Vec::new();
         for _ in 0..2 {
