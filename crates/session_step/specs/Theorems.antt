@@ -2,7 +2,7 @@
 use mathlib.Core.Path.{_≡_}
 use mathlib.Core.List.{List}
 use mathlib.Core.Logic.{_⊎_}
-use mathlib.Core.Bool.{true, false}
+use mathlib.Core.Bool.{true, false, cond}
 use Rattle.wire.specs.declared.status.Status.the-variants as status
 use Rattle.session_table.specs.declared.record.State.the-variants as state
 use Rattle.session_table.specs.declared.record.Session.{Session}
@@ -34,11 +34,12 @@ FirstIsKept = (l : List Event) → run freshSession l .source ≡ firstSource fr
 unfoldable pub KeptForGood : Type 0
 KeptForGood = (s : Session) (l : List Event) → s .source .present ≡ true → run s l .source ≡ s .source
 
--- a message of another source never changes anything
+-- "In an open state a message carrying a different one is 15": in Closed it is 14, and in no state does it change anything
 unfoldable pub OtherChangesNothing : Type 0
 OtherChangesNothing =
     (s : Session) (e : Event) → s .source .present ≡ true → carried (e .number) (e .source) ≡ true
-    → sameBytes (s .source .bytes) (e .source .bytes) ≡ false → next s e ≡ s
+    → sameBytes (s .source .bytes) (e .source .bytes) ≡ false
+    → (stepped s e ≡ refused (cond (isOpen (s .state)) status.OtherSource status.UnexpectedEvent) 0 s) × (next s e ≡ s)
 
 -- Projecting is reached only by an accepted Source Ready (1)
 unfoldable pub ReachedByReady : Type 0

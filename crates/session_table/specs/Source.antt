@@ -16,9 +16,13 @@ sameAt a b k = eqb (getD a k 0) (getD b k 0)
 unfoldable pub sameBytes : List ℕ → List ℕ → Bool
 sameBytes a b = allBelow 16 (sameAt a b)
 
--- a step looks at a Source ID only with a message: the commands are 1 to 6
+-- the messages among the events: their commands are 1 to 6
+unfoldable pub isMessage : ℕ → Bool
+isMessage event = leb 1 event && leb event 6
+
+-- "A step looks at a Source ID only with a message"
 unfoldable pub carried : ℕ → SourceId → Bool
-carried event source = source .present && (leb 1 event && leb event 6)
+carried event source = source .present && isMessage event
 
 -- the session is open and has kept a Source ID, and the event is a message that carries a different one
 unfoldable pub otherSource : Session → ℕ → SourceId → Bool

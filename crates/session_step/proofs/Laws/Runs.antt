@@ -24,7 +24,7 @@ use Rattle.session_step.specs.declared.step.Stepped.{Stepped}
 use Rattle.session_step.specs.Step.{wantsPin, pinOrReady, optionsFrom, optionsAfter, sourceAfter, accepted, refused, closed, follow, stepOf}
 use Rattle.session_step.specs.Runs.{Event, stepped, next, run, isAccepted, firstSource, pinRight}
 use Rattle.session_step.specs.Theorems.{ClosedRefuses, ClosedForGood, RefusalKeeps, FirstIsKept, KeptForGood, OtherChangesNothing, ReachedByReady, PinBeforeProjecting}
-use Rattle.session_step.proofs.Laws.Step.{step-other}
+use Rattle.session_step.proofs.Laws.Step.{carried-event, step-other}
 
 and-true : (b : Bool) → b && true ≡ b
 and-true true = refl
@@ -195,12 +195,13 @@ unfolding FirstIsKept
 first-is-kept l = first-kept freshSession l refl
 
 pub other-changes-nothing : OtherChangesNothing
-unfolding OtherChangesNothing otherSource
-other-changes-nothing s e kept c differs = by (either (isOpen (s .state)))
+unfolding OtherChangesNothing ClosedRefuses otherSource
+other-changes-nothing s e kept c differs = let r = by (either (isOpen (s .state))) in (r, ap (λ (r : Stepped). r .session) r)
   where
-    by : isOpen (s .state) ≡ true ⊎ isOpen (s .state) ≡ false → next s e ≡ s
-    by (inl o) = ap (λ (r : Stepped). r .session) (step-other s (e .number) (e .source) (e .options) (simp (o, c, kept, differs)))
-    by (inr o) = closed-next s e (is-closed (s .state) o)
+    by : isOpen (s .state) ≡ true ⊎ isOpen (s .state) ≡ false
+        → stepped s e ≡ refused (cond (isOpen (s .state)) status.OtherSource status.UnexpectedEvent) 0 s
+    by (inl o) = step-other s (e .number) (e .source) (e .options) (simp (o, c, kept, differs)) ∙ simp o
+    by (inr o) = closed-refuses s e (is-closed (s .state) o) (carried-event (e .number) (e .source) c) ∙ simp o
 
 is-projecting : (st : State) → isProjecting st ≡ true → st ≡ state.Projecting
 is-projecting state.Waiting e = never (sym e)

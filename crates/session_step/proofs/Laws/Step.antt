@@ -1,5 +1,5 @@
 -- The step, by the answers of its tests. Assumes nothing.
-use Prim.Native.Nat.{ℕ, _≤_}
+use Prim.Native.Nat.{ℕ}
 use mathlib.Core.Path.{_≡_, refl}
 use mathlib.Core.Bool.{Bool, true, false, not, cond, _&&_}
 use native.Mathlib.Omega.{arith}
@@ -11,28 +11,23 @@ use Rattle.message_rules.specs.declared.accessors.SourceId.{SourceId}
 use Rattle.session_table.specs.declared.record.Session.{Session}
 use Rattle.session_table.specs.declared.table.Next.the-variants as next
 use Rattle.session_table.specs.Record.{isOpen}
-use Rattle.session_table.specs.Source.{sameBytes, carried, otherSource}
+use Rattle.session_table.specs.Source.{sameBytes, isMessage, carried, otherSource}
 use Rattle.session_table.specs.Table.{table, isEvent, expectedOf}
 use Rattle.session_step.specs.Step.{refused, follow, stepOf}
 
--- a message that carries a Source ID is one of the six commands
-pub carried-command : (event : ℕ) (x : SourceId) → carried event x ≡ true → (1 ≤ event) × (event ≤ 6)
-unfolding carried
-carried-command event x e =
-    let h = both (leb 1 event) (leb event 6) (both (x .present) (leb 1 event && leb event 6) e .1) in
-    (leb-true 1 event (h .0), leb-true event 6 (h .1))
-
-pub command-event : (event : ℕ) → 1 ≤ event → event ≤ 10 → isEvent event ≡ true
-unfolding isEvent
-command-event event l u = simp (le-leb 1 event l, le-leb event 10 u)
+-- a message is an event
+pub carried-event : (event : ℕ) (x : SourceId) → carried event x ≡ true → isEvent event ≡ true
+unfolding isMessage carried isEvent
+carried-event event x e =
+    let h = both (leb 1 event) (leb event 6) (both (x .present) (isMessage event) e .1) in
+    simp (h .0, le-leb event 10 (omega (arith, leb-true event 6 (h .1))))
 
 -- only a message is of another source
 other-event : (s : Session) (event : ℕ) (x : SourceId) → otherSource s event x ≡ true → isEvent event ≡ true
 unfolding otherSource
 other-event s event x e =
     let r = both (isOpen (s .state)) (carried event x && (s .source .present && not (sameBytes (s .source .bytes) (x .bytes)))) e .1 in
-    let m = carried-command event x (both (carried event x) (s .source .present && not (sameBytes (s .source .bytes) (x .bytes))) r .0) in
-    command-event event (m .0) (omega (arith, m .1))
+    carried-event event x (both (carried event x) (s .source .present && not (sameBytes (s .source .bytes) (x .bytes))) r .0)
 
 pub step-other
     : (s : Session) (event : ℕ) (x : SourceId) (options : ℕ) → otherSource s event x ≡ true → stepOf s event x options ≡ refused status.OtherSource 0 s

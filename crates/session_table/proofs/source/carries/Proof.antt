@@ -1,5 +1,6 @@
--- The three tests of `carried`. Assumes nothing.
-use borrow.Author.Tests.{not-true, not-false, lt-leb, le-leb}
+-- The two tests of `carried`. Assumes nothing.
+use borrow.Author.Needs.{needs}
+use borrow.Author.Tests.{not-true, not-false}
 use Rattle.session_table.specs.Source.{carried}
 use Rattle.session_table.proofs.source.carries.Statement.{statement}
 use Rattle.session_table.proofs.source.carries.Tie as tie
@@ -10,11 +11,8 @@ returns c = simp (not-true (c .before .before .args .source .present) (c .if1 .t
 
 returns-2 : tie.Need-returns-2
 unfolding carried
-returns-2 c = simp (not-false (c .before .before .before .args .source .present) (c .before .if1 .left), lt-leb 1 _ (c .if2 .taken))
-
-returns-3 : tie.Need-returns-3
-unfolding carried
-returns-3 c = simp (not-false (c .before .before .before .args .source .present) (c .before .if1 .left), le-leb 1 _ (c .if2 .left))
+returns-2 c =
+    simp (not-false (c .before .before .before .args .source .present) (c .before .if1 .left), ← c .is-message .ensures)
 
 pub carries-spec : {M : Type 1} → statement M
-carries-spec = tie.close (tie.spec returns returns-2 returns-3)
+carries-spec = tie.close (tie.spec returns (λ c κs. search needs) returns-2)
