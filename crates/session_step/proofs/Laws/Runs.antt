@@ -141,6 +141,31 @@ source-next s e = by (way s e)
     by (unexpected q) = at _ q refl
     by (taken known t check q) = at _ q refl
 
+carried-present : (event : ℕ) (x : SourceId) → carried event x ≡ true → x .present ≡ true
+unfolding carried
+carried-present event x e = both (x .present) _ e .0
+
+-- the Source ID stays where it stays the same whether one is kept
+after-stays
+    : (kept : SourceId) (event : ℕ) (x : SourceId) → kept .present ≡ sourceAfter kept event x .present → kept ≡ sourceAfter kept event x
+unfolding sourceAfter
+after-stays kept event x h = by (kept .present) (carried event x) refl refl
+  where
+    by : (p q : Bool) → kept .present ≡ p → carried event x ≡ q → kept ≡ sourceAfter kept event x
+    by true q e f = simp e
+    by false true e f =
+        let taken : sourceAfter kept event x ≡ x = simp (e, f) in
+        never (sym (carried-present event x f) ∙ ap (λ (y : SourceId). y .present) (sym taken) ∙ sym h ∙ e)
+    by false false e f = simp (e, f)
+
+pub source-stays : (s : Session) (e : Event) → s .source .present ≡ next s e .source .present → s .source ≡ next s e .source
+source-stays s e h = by (isAccepted s e) (h ∙ ap (λ (y : SourceId). y .present) (source-next s e)) ∙ sym (source-next s e)
+  where
+    by : (b : Bool) → s .source .present ≡ cond b (sourceAfter (s .source) (e .number) (e .source)) (s .source) .present
+        → s .source ≡ cond b (sourceAfter (s .source) (e .number) (e .source)) (s .source)
+    by true = after-stays (s .source) (e .number) (e .source)
+    by false = λ h. refl
+
 kept-next : (s : Session) (e : Event) → s .source .present ≡ true → next s e .source ≡ s .source
 unfolding sourceAfter
 kept-next s e p = source-next s e ∙ by (isAccepted s e)
@@ -171,10 +196,6 @@ none-next s e p =
         ≡ cond (b && carried (e .number) (e .source)) (e .source) noSource
     by true = refl
     by false = refl
-
-carried-present : (event : ℕ) (x : SourceId) → carried event x ≡ true → x .present ≡ true
-unfolding carried
-carried-present event x e = both (x .present) _ e .0
 
 first-kept : (s : Session) (l : List Event) → s .source ≡ noSource → run s l .source ≡ firstSource s l
 unfolding run firstSource KeptForGood
