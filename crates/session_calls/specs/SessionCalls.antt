@@ -1,7 +1,7 @@
 -- The calls of the session: what each answers, and what the lent record then holds. Assumes nothing.
 use Prim.Native.Nat.{ℕ}
 use mathlib.Core.Path.{_≡_}
-use mathlib.Core.Bool.{Bool, false, not, cond, _&&_, _||_}
+use mathlib.Core.Bool.{Bool, true, false, not, cond, _&&_, _||_}
 use mathlib.Core.List.{List}
 use lib.Dec.{eqb, leb}
 use lib.ListN.{length}
@@ -9,12 +9,17 @@ use Rattle.wire.specs.declared.status.Status.the-variants as status
 use Rattle.wire.specs.Status.{numberOf}
 use Rattle.wire.specs.Number.{written}
 use Rattle.message_rules.specs.declared.accessors.SourceId.{SourceId}
+use Rattle.message_rules.specs.Accessors.{noSource}
+use Rattle.session_table.specs.declared.record.State.the-variants as state
+use Rattle.session_table.specs.declared.record.Session.{Session}
+use Rattle.session_table.specs.Record.{isOpen}
+use Rattle.session_table.specs.Source.{isMessage}
 use Rattle.session_step.specs.declared.step.Answer.{Answer}
 use Rattle.session_step.specs.declared.step.Stepped.{Stepped}
 use Rattle.session_step.specs.Step.{stepOf}
 use Rattle.session_step.specs.Message.{onMessage}
 use Rattle.wire.specs.Laid.{laid}
-use Rattle.session_layout.specs.SessionLayout.{sourceAt, stateNumber, sessionBytes, sessionOf}
+use Rattle.session_layout.specs.SessionLayout.{sourceAt, stateNumber, sessionBytes, sessionOf, sameSession}
 use Rattle.host_answers.specs.declared.Step.{Step}
 
 -- an answer, with what the lent record then holds
@@ -33,43 +38,52 @@ shortStep = record { status = numberOf status.NoRoom; check = false; place = 0 }
 abbrev pub answerOf : Answer → Step
 answerOf a = record { status = numberOf (a .status); check = a .check; place = a .place }
 
--- What a step leaves in the record xs, where the state's number was `before`: an accepted one the session afterwards; a refused one
--- nothing but the state, and that only if it is another ("Every refusal changes nothing, except 14 in an open session, which closes it").
-unfoldable pub bytesLeft : ℕ → Stepped → List ℕ → List ℕ
-bytesLeft before s xs =
-    cond (eqb (numberOf (s .answer .status)) 0) (laid (sessionBytes (s .session)) xs)
-    (cond (eqb (stateNumber (s .session .state)) before) xs (written 1 (stateNumber (s .session .state)) 0 xs))
+-- Where it stays whether a Source ID is kept, so do its bytes: this holds of a session and what a step makes of it, since a step keeps a first
+-- Source ID and no later one.
+abbrev pub SourceStays : Session → Session → Type 0
+SourceStays before after = before .source .present ≡ after .source .present → before .source ≡ after .source
 
-abbrev pub resultOf : ℕ → Stepped → List ℕ → StepResult
+-- What a step leaves in the record xs, which held the session `before`. Where the session afterwards is the same, each byte stays. Else an
+-- accepted step writes the session afterwards, and a refused one its state alone ("Every refusal changes nothing, except 14 in an open
+-- session, which closes it"; "Closing changes the state's name only").
+unfoldable pub bytesLeft : Session → Stepped → List ℕ → List ℕ
+bytesLeft before s xs =
+    cond (sameSession before (s .session)) xs
+    (cond (eqb (numberOf (s .answer .status)) 0) (laid (sessionBytes (s .session)) xs) (written 1 (stateNumber (s .session .state)) 0 xs))
+
+abbrev pub resultOf : Session → Stepped → List ℕ → StepResult
 resultOf before s xs = stepResult (answerOf (s .answer)) (bytesLeft before s xs)
 
 -- on the session in the record
 abbrev pub resultOn : Stepped → List ℕ → StepResult
-resultOn s xs = resultOf (stateNumber (sessionOf xs .state)) s xs
+resultOn s xs = resultOf (sessionOf xs) s xs
 
--- a lent Source ID: no bytes where there is none, else its first 16
+-- a lent Source ID: the first 16 bytes; fewer are none
 unfoldable pub sourceIn : List ℕ → SourceId
-sourceIn xs = sourceAt (not (eqb (length xs) 0)) 0 xs
+sourceIn xs = cond (leb 16 (length xs)) (sourceAt true 0 xs) noSource
 
--- the record has its 19 bytes, and the lent Source ID none or its 16
-unfoldable pub lentEnough : ℕ → List ℕ → Bool
-lentEnough lent source = leb 19 lent && (eqb (length source) 0 || leb 16 (length source))
+-- The record has its 19 bytes; and the lent Source ID is none, or has its 16, or is not looked at, since the event is no message. So 4 for a
+-- number that is no event comes before the 10 for a Source ID of 1 to 15 bytes, and the 10 for a short record before both.
+unfoldable pub lentEnough : ℕ → ℕ → List ℕ → Bool
+lentEnough lent event source = leb 19 lent && (eqb (length source) 0 || (leb 16 (length source) || not (isMessage event)))
 
 -- a step with an event, on the session in the record xs
 unfoldable pub sessionStep : List ℕ → ℕ → List ℕ → ℕ → StepResult
 sessionStep xs event source options =
-    cond (lentEnough (length xs) source) (resultOn (stepOf (sessionOf xs) event (sourceIn source) options) xs) (stepResult shortStep xs)
+    cond (lentEnough (length xs) event source) (resultOn (stepOf (sessionOf xs) event (sourceIn source) options) xs) (stepResult shortStep xs)
 
 -- a step with the message in `bytes`
 unfoldable pub sessionMessage : List ℕ → List ℕ → StepResult
 sessionMessage xs bytes = cond (leb 19 (length xs)) (resultOn (onMessage (sessionOf xs) bytes) xs) (stepResult shortStep xs)
 
--- A refusal other than 14 changes no byte of the record ("Every refusal changes nothing, except 14 in an open session, which closes it").
--- The proofs stand in proofs/Laws/SessionCalls.antt.
+-- What every refused call leaves ("Every refusal changes nothing, except 14 in an open session, which closes it"; "Closing changes the
+-- state's name only"). The proofs stand in proofs/Laws/Refusals.antt.
 
--- what holds of an answer to a call on the record xs, and of what the record then holds
+-- each byte of the record xs, but that 14 in an open session writes Closed to the byte of the state
 unfoldable pub KeptIfRefused : List ℕ → StepResult → Type 0
-KeptIfRefused xs r = (r .answer .status ≡ 0 → ⊥) → (r .answer .status ≡ 14 → ⊥) → r ≡ stepResult (r .answer) xs
+KeptIfRefused xs r =
+    (r .answer .status ≡ 0 → ⊥)
+    → r .bytes ≡ cond (eqb (r .answer .status) 14 && isOpen (sessionOf xs .state)) (written 1 (stateNumber state.Closed) 0 xs) xs
 
 unfoldable pub StepRefusalKeeps : Type 0
 StepRefusalKeeps = (xs : List ℕ) (event : ℕ) (source : List ℕ) (options : ℕ) → KeptIfRefused xs (sessionStep xs event source options)

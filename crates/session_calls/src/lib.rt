@@ -3,15 +3,17 @@ ghost use mathlib.Core.Path.{_≡_};
 ghost use lib.ListN.{length};
 ghost use Rattle.session_table.specs.Record.{freshSession};
 ghost use Rattle.wire.specs.Laid.{laid};
-ghost use Rattle.session_layout.specs.SessionLayout.{sessionBytes};
+ghost use Rattle.session_layout.specs.SessionLayout.{sessionBytes, sameSession};
 ghost use Rattle.host_answers.specs.Fresh.{freshAnswer};
-ghost use Rattle.session_calls.specs.SessionCalls.{stepResult, shortStep, answerOf, resultOf, sourceIn, lentEnough, sessionStep, sessionMessage};
+ghost use Rattle.session_calls.specs.SessionCalls.{SourceStays, stepResult, shortStep, answerOf, resultOf, sourceIn, lentEnough, sessionStep, sessionMessage};
 use host_answers::Step;
 use message_rules::accessors::SourceId;
 use session_step::message_step;
 use session_step::step;
 use session_step::step::Answer;
 use session_step::step::Stepped;
+use session_table::record::Session;
+use session_table::source;
 use wire::number::put_u8;
 use wire::status;
 use wire::status::Status;
@@ -47,37 +49,60 @@ fn answered(answer: Answer) -> Step
     }
 }
 
-// Leaves what the step makes of the session in the record, and answers. Of a refused step that is the state alone, and only if it is
-// another than before: 14 closes an open session, and every other refusal changes nothing. `before` is the state's number before.
-fn leave(record: &mut [u8], before: u8, stepped: Stepped) -> Step
+// Whether a step made of the session `before` the same one. Where it stays whether a Source ID is kept, the bytes need no look.
+fn is_same(before: Session, after: Session) -> bool
+    requires { ⌜ SourceStays before after ⌝ }
+    ensures { λ r. ⌜ r ≡ sameSession before after ⌝ }
+{
+    let old = before.state;
+    let new = after.state;
+    if session_layout::number_of(old) != session_layout::number_of(new) {
+        return false;
+    }
+    if before.options != after.options {
+        return false;
+    }
+    before.source.present == after.source.present
+}
+
+// Leaves what the step makes of the session `before` in the record, and answers. Where it is the same session, each byte stays; else an accepted
+// step writes it, and a refused one its state alone: 14 closes an open session, and every other refusal changes nothing.
+fn leave(record: &mut [u8], before: Session, stepped: Stepped) -> Step
+    requires { ⌜ SourceStays before (stepped .session) ⌝ }
     ensures { λ r. ⌜ stepResult r (now («record» .exit)) ≡ resultOf before stepped (now («record» .entry)) ⌝ }
 {
     let answer = stepped.answer;
     let session = stepped.session;
+    if is_same(before, session) {
+        return answered(answer);
+    }
     let status = answer.status;
     if status::number(status) == 0 {
         session_layout::write(record, session);
         return answered(answer);
     }
     let state = session.state;
-    let number = session_layout::number_of(state);
-    if number != before {
-        put_u8(record, 0, number);
-        return answered(answer);
-    }
+    put_u8(record, 0, session_layout::number_of(state));
     answered(answer)
 }
 
-// The Source ID in the first 16 bytes; no bytes are none.
+// The Source ID in the first 16 bytes; fewer are none.
 fn source_of(bytes: &[u8]) -> SourceId
     ensures { λ r. ⌜ r ≡ sourceIn (now (bytes .entry)) ⌝ }
 {
-    session_layout::source_at(bytes.len() != 0, bytes, 0)
+    if bytes.len() < 16 {
+        return SourceId {
+            present: false,
+            bytes: [0u8; 16],
+        };
+    }
+    session_layout::source_at(true, bytes, 0)
 }
 
-// Whether a record of so many bytes has all of its own, and `source` is a Source ID or none.
-fn lent_enough(lent: usize, source: &[u8]) -> bool
-    ensures { λ r. ⌜ r ≡ lentEnough lent (now (source .entry)) ⌝ }
+// Whether a record of so many bytes has all of its own, and with a message `source` is a Source ID or none. With any other event it is not
+// looked at.
+fn lent_enough(lent: usize, event: u8, source: &[u8]) -> bool
+    ensures { λ r. ⌜ r ≡ lentEnough lent event (now (source .entry)) ⌝ }
 {
     if lent < session_layout::LENGTH {
         return false;
@@ -85,21 +110,23 @@ fn lent_enough(lent: usize, source: &[u8]) -> bool
     if source.len() == 0 {
         return true;
     }
-    16 <= source.len()
+    if 16 <= source.len() {
+        return true;
+    }
+    !source::is_message(event)
 }
 
-// A step with an event: 1 to 6 the commands of messages, 7 handshake done, 8 PIN right, 9 PIN wrong, 10 connection lost. `source` has no
-// bytes where the event carries no Source ID, else the Source ID in its first 16.
+// A step with an event: 1 to 6 the commands of messages, 7 handshake done, 8 PIN right, 9 PIN wrong, 10 connection lost. With a message `source`
+// has no bytes where it carries no Source ID, else the Source ID in its first 16; with any other event it is not looked at.
 pub fn on_event(record: &mut [u8], event: u8, source: &[u8], options: u8) -> Step
     ensures { λ r. ⌜ stepResult r (now («record» .exit)) ≡ sessionStep (now («record» .entry)) event (now (source .entry)) options ⌝ }
 {
-    if !lent_enough(record.len(), source) {
+    if !lent_enough(record.len(), event, source) {
         return short();
     }
     let session = session_layout::read(record);
-    let state = session.state;
     let stepped = step::step(session, event, source_of(source), options);
-    leave(record, session_layout::number_of(state), stepped)
+    leave(record, session, stepped)
 }
 
 // A step with a message, which is all of the lent bytes.
@@ -110,7 +137,6 @@ pub fn on_message(record: &mut [u8], bytes: &[u8]) -> Step
         return short();
     }
     let session = session_layout::read(record);
-    let state = session.state;
     let stepped = message_step::on_message(session, bytes);
-    leave(record, session_layout::number_of(state), stepped)
+    leave(record, session, stepped)
 }

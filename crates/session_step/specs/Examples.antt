@@ -10,7 +10,7 @@ use Rattle.session_table.specs.declared.record.State.{State}
 use Rattle.session_table.specs.declared.record.State.the-variants as state
 use Rattle.message_rules.specs.Accessors.{noSource}
 use Rattle.session_table.specs.declared.record.Session.{Session}
-use Rattle.session_table.specs.Record.{freshSession, isOpen}
+use Rattle.session_table.specs.Record.{freshSession}
 use Rattle.session_table.specs.Source.{isMessage, carried, otherSource, sameBytes}
 use Rattle.session_table.specs.Table.{isEvent}
 use Rattle.session_step.specs.Step.{wantsPin, pinOrReady, optionsFrom, sourceAfter, accepted, refused, closed, steppedTo, stepOf}
@@ -79,7 +79,7 @@ pub refusal-keeps-met
     : (isAccepted (sessionIn state.PinWait) ready ≡ false)
     × (stepped (sessionIn state.PinWait) ready ≡ refused status.UnexpectedEvent 0 (closed (sessionIn state.PinWait)))
     × (isAccepted (sessionIn state.PinWait) strangeStop ≡ false)
-    × (next (sessionIn state.PinWait) strangeStop ≡ sessionIn state.PinWait)
+    × (stepped (sessionIn state.PinWait) strangeStop ≡ refused status.OtherSource 0 (sessionIn state.PinWait))
 unfolding stepOf isEvent otherSource isMessage carried sameBytes allBelow
 refusal-keeps-met = (refl, refl, refl, refl)
 

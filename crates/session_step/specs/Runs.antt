@@ -3,6 +3,7 @@ use Prim.Native.Nat.{ℕ}
 use mathlib.Core.List.{List, [], _∷_}
 use mathlib.Core.Bool.{Bool, false, cond, _&&_, _||_}
 use lib.Dec.{eqb}
+use Rattle.wire.specs.declared.status.Status.{Status}
 use Rattle.wire.specs.Status.{numberOf}
 use Rattle.message_rules.specs.declared.accessors.SourceId.{SourceId}
 use Rattle.session_table.specs.declared.record.Session.{Session}
@@ -28,8 +29,12 @@ unfoldable pub run : Session → List Event → Session
 run s [] = s
 run s (e ∷ l) = run (next s e) l
 
+-- what it is answered with, and whether it is accepted
+abbrev pub statusOf : Session → Event → Status
+statusOf s e = stepped s e .answer .status
+
 abbrev pub isAccepted : Session → Event → Bool
-isAccepted s e = eqb (numberOf (stepped s e .answer .status)) 0
+isAccepted s e = eqb (numberOf (statusOf s e)) 0
 
 -- the first Source ID that an accepted event carries, if one does
 unfoldable pub firstSource : Session → List Event → SourceId

@@ -2,7 +2,9 @@
 use mathlib.Core.Path.{_≡_}
 use mathlib.Core.List.{List}
 use mathlib.Core.Logic.{_⊎_}
-use mathlib.Core.Bool.{true, false, cond}
+use mathlib.Core.Bool.{true, false, cond, _&&_}
+use lib.Dec.{eqb}
+use Rattle.wire.specs.Status.{numberOf}
 use Rattle.wire.specs.declared.status.Status.the-variants as status
 use Rattle.session_table.specs.declared.record.State.the-variants as state
 use Rattle.session_table.specs.declared.record.Session.{Session}
@@ -10,7 +12,7 @@ use Rattle.session_table.specs.Record.{freshSession, isOpen}
 use Rattle.session_table.specs.Source.{carried, sameBytes}
 use Rattle.session_table.specs.Table.{isEvent}
 use Rattle.session_step.specs.Step.{wantsPin, closed, refused}
-use Rattle.session_step.specs.Runs.{Event, stepped, next, run, isAccepted, firstSource, pinRight}
+use Rattle.session_step.specs.Runs.{Event, stepped, next, run, statusOf, isAccepted, firstSource, pinRight}
 
 -- "In Closed every event is 14 and nothing changes": and so after any list of events
 unfoldable pub ClosedRefuses : Type 0
@@ -24,7 +26,7 @@ ClosedForGood = (s : Session) (l : List Event) → s .state ≡ state.Closed →
 unfoldable pub RefusalKeeps : Type 0
 RefusalKeeps =
     (s : Session) (e : Event) → isAccepted s e ≡ false
-    → (next s e ≡ s) ⊎ ((isOpen (s .state) ≡ true) × (stepped s e ≡ refused status.UnexpectedEvent 0 (closed s)))
+    → stepped s e ≡ refused (statusOf s e) 0 (cond (eqb (numberOf (statusOf s e)) 14 && isOpen (s .state)) (closed s) s)
 
 -- "The first Source ID carried by an accepted event is kept": over any list of events from a fresh session
 unfoldable pub FirstIsKept : Type 0

@@ -14,10 +14,11 @@ pub enum State {
 
 pub struct Session {
     pub state: State,
-    // The option byte of the Session Request, or 0.
-    pub options: u8,
     // The first Source ID that an accepted event carried, if one did.
     pub source: SourceId,
+    // The option byte of the Session Request, or 0. It stands apart from the state: side by side, two bytes that were stored one by one are
+    // read as one number, which waits for both.
+    pub options: u8,
 }
 
 impl Session {

@@ -1,7 +1,11 @@
--- The session is written, or its state, or nothing. Assumes nothing.
-use mathlib.Core.Path.{sym, _∙_}
+-- Nothing is written, or the session, or its state. Assumes nothing.
+use mathlib.Core.Path.{_≡_, sym, _∙_}
+use mathlib.Core.Bool.{true, false}
 use borrow.Author.Tests.{eq-eqb, ne-eqb}
 use borrow.Author.Needs.{needs}
+use lib.Dec.{eqb}
+use Rattle.wire.specs.Status.{numberOf}
+use Rattle.session_layout.specs.SessionLayout.{sameSession}
 use Rattle.session_calls.specs.SessionCalls.{bytesLeft}
 use Rattle.session_calls.proofs.leave.Statement.{statement}
 use Rattle.session_calls.proofs.leave.Tie as tie
@@ -9,31 +13,40 @@ use Rattle.session_calls.proofs.leave.Tie as tie
 returns : tie.Need-returns
 unfolding bytesLeft
 returns c =
-    let w = c .before .before .before in
-    let i = w .before .before in
-    rw (c .answered .ensures, w .write .ensures) (simp (eq-eqb _ 0 (sym (i .before .number .ensures) ∙ i .if1 .taken)))
+    let i = c .before in
+    let t = i .before in
+    let a = t .before .before .before .before .args in
+    let same : sameSession (a .before) (a .stepped .session) ≡ true = sym (t .is-same .ensures) ∙ i .if1 .taken in
+    rw (c .answered .ensures) (simp same)
 
 returns-2 : tie.Need-returns-2
 unfolding bytesLeft
 returns-2 c =
-    let p = c .before .before .before in
-    let j = p .before .before in
-    let m = j .before in
-    let i = m .before in
-    rw (c .answered2 .ensures, p .put-u8 .ensures .1, m .number-of .ensures)
-    (simp (ne-eqb _ _ (λ e. i .if1 .left (i .before .number .ensures ∙ e)), ne-eqb _ _ (λ e. j .if2 .taken (m .number-of .ensures ∙ e))))
+    let w = c .before .before .before in
+    let j = w .before .before in
+    let n = j .before in
+    let i = n .before in
+    let t = i .before in
+    let a = t .before .before .before .before .args in
+    let other : sameSession (a .before) (a .stepped .session) ≡ false = sym (t .is-same .ensures) ∙ i .if1 .left in
+    let taken : eqb (numberOf (a .stepped .answer .status)) 0 ≡ true = eq-eqb _ 0 (sym (n .number .ensures) ∙ j .if2 .taken) in
+    rw (c .answered2 .ensures, w .write .ensures) (simp (other, taken))
 
 returns-3 : tie.Need-returns-3
 unfolding bytesLeft
 returns-3 c =
-    let j = c .before in
-    let m = j .before in
-    let i = m .before in
-    rw (c .answered3 .ensures)
-    (simp (ne-eqb _ _ (λ e. i .if1 .left (i .before .number .ensures ∙ e)), eq-eqb _ _ (sym (m .number-of .ensures) ∙ j .if2 .left)))
+    let p = c .before .before .before in
+    let j = p .before .before .before in
+    let n = j .before in
+    let i = n .before in
+    let t = i .before in
+    let a = t .before .before .before .before .args in
+    let other : sameSession (a .before) (a .stepped .session) ≡ false = sym (t .is-same .ensures) ∙ i .if1 .left in
+    let refused : eqb (numberOf (a .stepped .answer .status)) 0 ≡ false = ne-eqb _ 0 (λ e. j .if2 .left (n .number .ensures ∙ e)) in
+    rw (c .answered3 .ensures, p .put-u8 .ensures .1, p .before .number-of .ensures) (simp (other, refused))
 
 pub leave-spec : {M : Type 1} → statement M
 leave-spec =
     tie.close
-    (tie.spec (λ c κs. search needs) (λ c κs. search needs) (λ c κs. search needs) (λ c. search needs) returns (λ c κs. search needs)
-    (λ c κs. search needs) (λ c κs. search needs) (λ c. search needs) returns-2 (λ c κs. search needs) returns-3)
+    (tie.spec (λ c κs. search needs) (λ c κs. search needs) returns (λ c κs. search needs) (λ c κs. search needs) (λ c κs. search needs)
+    (λ c. search needs) returns-2 (λ c κs. search needs) (λ c κs. search needs) (λ c κs. search needs) (λ c. search needs) returns-3)

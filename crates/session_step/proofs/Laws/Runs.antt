@@ -110,19 +110,22 @@ taken-accepted : (s : Session) (e : Event) (n : Next) (check : Bool) → stepped
 unfolding accepted
 taken-accepted s e n check q = ap (λ (r : Stepped). eqb (numberOf (r .answer .status)) 0) q
 
+-- what a refused step answers and leaves
+abbrev Kept : Session → Stepped → Type 0
+Kept s r = r ≡ refused (r .answer .status) 0 (cond (eqb (numberOf (r .answer .status)) 14 && isOpen (s .state)) (closed s) s)
+
 pub refusal-keeps : RefusalKeeps
 unfolding RefusalKeeps
 refusal-keeps s e r = by (way s e)
   where
-    kept : isOpen (s .state) ≡ true ⊎ isOpen (s .state) ≡ false → stepped s e ≡ refused status.UnexpectedEvent 0 (closed s)
-        → (next s e ≡ s) ⊎ ((isOpen (s .state) ≡ true) × (stepped s e ≡ refused status.UnexpectedEvent 0 (closed s)))
-    kept (inl o) q = inr (o, q)
-    kept (inr o) q = inl (ap (λ (r : Stepped). r .session) q ∙ closed-same s (is-closed (s .state) o))
+    closes : isOpen (s .state) ≡ true ⊎ isOpen (s .state) ≡ false → closed s ≡ cond (isOpen (s .state)) (closed s) s
+    closes (inl o) = simp o
+    closes (inr o) = simp o (closed-same s (is-closed (s .state) o))
 
-    by : Way s e → (next s e ≡ s) ⊎ ((isOpen (s .state) ≡ true) × (stepped s e ≡ refused status.UnexpectedEvent 0 (closed s)))
-    by (no-event q) = inl (ap (λ (r : Stepped). r .session) q)
-    by (other o q) = inl (ap (λ (r : Stepped). r .session) q)
-    by (unexpected q) = kept (either (isOpen (s .state))) q
+    by : Way s e → Kept s (stepped s e)
+    by (no-event q) = subst (Kept s) (sym q) refl
+    by (other o q) = subst (Kept s) (sym q) refl
+    by (unexpected q) = subst (Kept s) (sym q) (ap (refused status.UnexpectedEvent 0) (closes (either (isOpen (s .state)))))
     by (taken known t check q) = never (sym (taken-accepted s e (entry s e) check q) ∙ r)
 
 -- what becomes of the Source ID
