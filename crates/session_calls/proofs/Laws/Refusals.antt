@@ -17,7 +17,7 @@ use Rattle.message_reader.specs.declared.Answer.the-variants as reader
 use Rattle.message_reader.specs.Reading.{readMessage}
 use Rattle.message_reader.specs.Theorems.{Fault, Refusal}
 use Rattle.message_reader.specs.Theorems as given
-use Rattle.message_reader.proofs.Laws.Reading.{refused-exactly}
+use Rattle.message_reader.proofs.Laws.Reading.{refusal-of}
 use Rattle.message_rules.specs.Accessors.{sourceOf, optionsOf}
 use Rattle.session_table.specs.declared.record.Session.{Session}
 use Rattle.session_table.specs.declared.record.State.{State}
@@ -67,8 +67,7 @@ refusal-below bytes st place (given.tlv {m = m} h r a f) = fault-below bytes pla
 refusal-below bytes st place (given.missing t h r n g) = omega arith
 
 reader-below : (bytes : List ℕ) (st : Status) (place : ℕ) → readMessage bytes ≡ reader.Refused st place → numberOf st ≤ 8
-unfolding Rattle.message_reader.specs.Theorems.RefusedExactly
-reader-below bytes st place e = refusal-below bytes st place (refused-exactly bytes st place .0 e)
+reader-below bytes st place e = refusal-below bytes st place (refusal-of bytes st place e)
 
 module _ (xs : List ℕ) where
   event-kept : (e : Event) → KeptIfRefused xs (resultOn (stepped (sessionOf xs) e) xs)
