@@ -285,10 +285,11 @@ enum ashlarsilk_event {
 uint8_t ashlarsilk_session_fresh(uint8_t *record, size_t record_length);
 
 /*
- * A step with an event. `source` has no bytes where the event carries no Source ID, else the Source ID in its first 16; with 1 to 15 bytes it is
- * refused with 10. The Source ID is looked at only with a message, the options only with a Session Request. Answers 0 and whether the host is to
- * check the PIN, or the refusal: 10 for a short record, 4, 14, 15. Changes `record`, where it accepts: the session after the step, each flag and
- * state in its usual form. 14 puts the state of an open session to Closed and changes nothing else.
+ * A step with an event. `source` is looked at only with a message, `options` only with a Session Request: with a message (1 to 6) `source` has no
+ * bytes where it carries no Source ID, else the Source ID in its first 16; with any other event it may have any number of bytes. Answers 0 and
+ * whether the host is to check the PIN, or the refusal: 10 for a short record, 4, 10 for a message with a `source` of 1 to 15 bytes, 15, 14.
+ * Changes `record`, where it accepts and the session after the step is another one than before: it is then written, each flag and state in its
+ * usual form; else each byte stays. 14 puts the state of an open session to Closed and changes nothing else.
  */
 ashlarsilk_stepped ashlarsilk_session_step(uint8_t *record, size_t record_length, uint8_t event, const uint8_t *source,
                                            size_t source_length, uint8_t options);

@@ -17,10 +17,11 @@ pub extern "C" fn ashlarsilk_session_fresh(record: &mut [u8]) -> u8
     session_calls::fresh(record)
 }
 
-// A step with an event: 1 to 6 the commands of messages, 7 handshake done, 8 PIN right, 9 PIN wrong, 10 connection lost. `source` has no
-// bytes where the event carries no Source ID, else the Source ID in its first 16. Answers 0 or the refusal, with 10 where the record has
-// fewer than 19 bytes or `source` has 1 to 15. An accepted step leaves the session afterwards in the record; 14 in an open session leaves
-// the state Closed there; any other refusal changes nothing.
+// A step with an event: 1 to 6 the commands of messages, 7 handshake done, 8 PIN right, 9 PIN wrong, 10 connection lost. With a message
+// `source` has no bytes where it carries no Source ID, else the Source ID in its first 16; with any other event it is not looked at. Answers 0
+// or the refusal: 10 where the record has fewer than 19 bytes; 4; 10 where with a message `source` has 1 to 15 bytes; 15; 14. An accepted step
+// leaves the session afterwards in the record, and each byte as it was where that is the same session; 14 in an open session leaves the state
+// Closed there; any other refusal changes nothing.
 #[no_mangle]
 pub extern "C" fn ashlarsilk_session_step(
     record: &mut [u8],

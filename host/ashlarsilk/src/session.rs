@@ -179,7 +179,7 @@ impl Session {
 
     /// A step with an event. The Source ID is looked at only with a message, the options only with
     /// a Session Request. Refusals: 4, 14 and 15. They change nothing, but for 14, which closes an
-    /// open session.
+    /// open session. An accepted step that leaves the session as it was leaves each byte of it.
     ///
     /// ```
     /// use ashlarsilk::{Event, Refusal, Session, SourceId, State};

@@ -244,7 +244,8 @@ pub fn session_fresh(record: &mut [u8]) -> u8 {
     unsafe { exports::ashlarsilk_session_fresh(record.as_mut_ptr(), record.len()) }
 }
 
-/// A step with an event; `source` is empty where it carries no Source ID.
+/// A step with an event; with a message `source` is empty where it carries no Source ID, and with
+/// any other event it is not looked at.
 #[inline]
 pub fn session_step(record: &mut [u8], event: u8, source: &[u8], options: u8) -> Step {
     // SAFETY: as the module says: pointers and lengths of borrowed slices.
