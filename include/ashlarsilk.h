@@ -16,9 +16,9 @@
  * - The calls keep no state, and no pointer after they return. So any thread may call at any time, with its own buffers.
  *
  * A record is a buffer of bytes that the host keeps and lends; its layout is given below. Numbers in it are little-endian:
- * the least significant byte first. A flag is one byte, 0 for no and any other for yes, written as 1. A record lent with fewer bytes than its
- * layout has is refused with ASHLARSILK_NO_ROOM, before anything else is looked at; the bytes after the layout are left alone. Any bytes may
- * stand in a record.
+ * the least significant byte first. A flag is one byte, 0 for no and any other for yes, written as 1. A session's step and the calls of the
+ * cursor stream write a record only where they change what it says. A record lent with fewer bytes than its layout has is refused with
+ * ASHLARSILK_NO_ROOM, before anything else is looked at; the bytes after the layout are left alone. Any bytes may stand in a record.
  */
 #ifndef ASHLARSILK_H
 #define ASHLARSILK_H
@@ -53,7 +53,8 @@ enum ashlarsilk_status {
     ASHLARSILK_TLV_UNEXPECTED = 8,
     /* negative offset, or offset plus data beyond the total */
     ASHLARSILK_OUTSIDE_IMAGE = 9,
-    /* output shorter than needed, or total above 262,144 or above the lent picture or marks; a record shorter than its layout */
+    /* output shorter than needed, or total above 262,144 or above the lent picture or marks; a record shorter than its layout; a message's
+       Source ID of 1 to 15 bytes */
     ASHLARSILK_NO_ROOM = 10,
     /* sequence number not newer */
     ASHLARSILK_NOT_NEWER = 11,
