@@ -58,7 +58,7 @@ overRecords = record {
   accepts = λ s packet. eqb (called s packet .answer .status) 0;
   next = nextLent;
   Complete = λ s. cursorComplete (s .picture) (s .image) (s .marks) ≡ record { status = 0; yes = true };
-  Lent = λ s l. RecordsLent s × PacketsLent l;
+  Asked = λ s l. RecordsLent s × PacketsLent l;
 }
 
 -- the records as values

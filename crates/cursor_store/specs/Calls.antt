@@ -57,7 +57,7 @@ byValue = record {
   accepts = λ s packet. isAccepted (answered s packet .answer);
   next = next;
   Complete = λ s. completeness (s .picture) (length (s .image)) (s .marks) ≡ Yes;
-  Lent = λ s l. Unit {0};
+  Asked = λ s l. Unit {0};
 }
 
 -- The proofs of these laws stand in proofs/Laws/Calls.antt.

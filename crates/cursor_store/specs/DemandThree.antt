@@ -60,7 +60,7 @@ pub record Agreeing (R : Receiver) (s : R .State) (l : List Call) : Type 0 where
   pub starts : StartsHave common l
 
 pub record Given (R : Receiver) (w : Whole) (s : R .State) (l : List Call) : Type 0 where
-  pub lent : R .Lent s l
+  pub asked : R .Asked s l
   pub opened : OpenedAs R w s
   pub taken : Taken R w s l
   pub agreeing : Agreeing R s l

@@ -35,8 +35,8 @@ pub record Receiver : Type 1 where
   pub next : State → List ℕ → State
   -- the completeness question answers yes
   pub Complete : State → Type 0
-  -- what is lent is what it is said to be: nothing is asked by value
-  pub Lent : State → List Call → Type 0
+  -- what is asked of a state and of the packets besides: by value nothing
+  pub Asked : State → List Call → Type 0
 
 -- the state after a list of calls
 unfoldable pub run : (R : Receiver) → R .State → List Call → R .State

@@ -74,8 +74,8 @@ backwards-taken t = (t .0, (t .1 .0, (refl, (t .1 .1 .1 .0, (t .1 .1 .1 .1 .0, t
 pub met : PremisesMet
 met =
     let p = premises-met in (
-      record { lent = (records-lent, forwards-lent); opened = is-opened (p .0 .opened); taken = forwards-taken (p .0 .taken); agreeing = agree forwards (p .0 .agreeing) },
-      record { lent = (records-lent, backwards-lent); opened = is-opened (p .1 .opened); taken = backwards-taken (p .1 .taken); agreeing = agree backwards (p .1 .agreeing) },
+      record { asked = (records-lent, forwards-lent); opened = is-opened (p .0 .opened); taken = forwards-taken (p .0 .taken); agreeing = agree forwards (p .0 .agreeing) },
+      record { asked = (records-lent, backwards-lent); opened = is-opened (p .1 .opened); taken = backwards-taken (p .1 .taken); agreeing = agree backwards (p .1 .agreeing) },
       p .2,
     )
 

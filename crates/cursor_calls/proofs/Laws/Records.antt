@@ -233,7 +233,7 @@ all-accepted s (other packet ∷ l) r k a =
 
 given-decoded : (w : Whole) (s : Lent) (l : List Call) → Given overRecords w s l → Given byValue w (decoded s) l
 given-decoded w s l g = record {
-  lent = tt;
+  asked = tt;
   opened = record {
     opened = g .opened .opened;
     same-id = g .opened .same-id;
@@ -241,23 +241,23 @@ given-decoded w s l g = record {
     clear = g .opened .clear;
     agreeing = g .opened .agreeing;
   };
-  taken = taken-decoded w s l (g .lent .0) (g .lent .1) (g .taken);
+  taken = taken-decoded w s l (g .asked .0) (g .asked .1) (g .taken);
   agreeing = record { common = g .agreeing .common; seen = g .agreeing .seen; starts = g .agreeing .starts };
 }
 
 pub demand-three-over-records : DemandThreeOverRecords
 demand-three-over-records w s l g =
     let h = demand-three w (decoded s) l (given-decoded w s l g) in
-    let e : run byValue (decoded s) l ≡ decoded (run overRecords s l) = sym (run-decoded s l (g .lent .0) (g .lent .1)) in
-    let c = complete-same (run overRecords s l) (all-lent s l (g .lent .0) (g .lent .1)) in
+    let e : run byValue (decoded s) l ≡ decoded (run overRecords s l) = sym (run-decoded s l (g .asked .0) (g .asked .1)) in
+    let c = complete-same (run overRecords s l) (all-lent s l (g .asked .0) (g .asked .1)) in
     let v = subst (λ (x : State). byValue .Complete x ↔ (((started l || pictureOf (s .picture) .seen) ≡ true) × ((i : ℕ) → i < totalOf w → filledAt (x .marks) i ≡ true))) e (h .complete) in
     record {
-      each-accepted = all-accepted s l (g .lent .0) (g .lent .1) (h .each-accepted);
+      each-accepted = all-accepted s l (g .asked .0) (g .asked .1) (h .each-accepted);
       filled = subst (λ (x : State). (i : ℕ) → filledAt (x .marks) i ≡ (covered l i || filledAt (s .marks) i)) e (h .filled);
       whole-byte = subst (λ (x : State). (i : ℕ) → i < totalOf w → filledAt (x .marks) i ≡ true → getD (x .image) i 0 ≡ getD (w .image) i 0) e (h .whole-byte);
       complete = (λ y. v .0 (c .0 y), λ y. c .1 (v .1 y));
       same = λ l′ g′ m.
-          let e′ : run byValue (decoded s) l′ ≡ decoded (run overRecords s l′) = sym (run-decoded s l′ (g′ .lent .0) (g′ .lent .1)) in
+          let e′ : run byValue (decoded s) l′ ≡ decoded (run overRecords s l′) = sym (run-decoded s l′ (g′ .asked .0) (g′ .asked .1)) in
           let b = h .same l′ (given-decoded w s l′ g′) m in
           record {
             image = sym (ap (λ (x : State). x .image) e) ∙ b .image ∙ ap (λ (x : State). x .image) e′;

@@ -83,8 +83,8 @@ same-fragments = (
 
 pub premises-met : PremisesMet
 premises-met = (
-  record { lent = tt; opened = is-opened; taken = forwards-taken; agreeing = forwards-agree },
-  record { lent = tt; opened = is-opened; taken = backwards-taken; agreeing = backwards-agree },
+  record { asked = tt; opened = is-opened; taken = forwards-taken; agreeing = forwards-agree },
+  record { asked = tt; opened = is-opened; taken = backwards-taken; agreeing = backwards-agree },
   same-fragments,
 )
 
