@@ -57,7 +57,14 @@ unfolding sessionStep lentEnough isMessage bytesLeft sameSession sameBytes allBe
     sourceAfter sessionOf stateOf numberAt numberIn idAt copied splice
 challenge-keeps = refl
 
--- The premises of the theorems are met. Beside them stands what the theorem then says, computed: what `KeptIfRefused` asks of the bytes.
+-- The premises of the theorems are met. Beside them stands what the theorem then says, computed: of the bytes what `KeptIfRefused` asks.
+-- (`SourceStays` is no theorem: it holds of every step, by proofs/Laws/SessionCalls.antt.)
+
+-- LentSourceUnseen: connection lost beside five bytes and beside none
+pub lent-source-unseen-met
+    : (isMessage 10 ≡ false) × (sessionStep (recordOf 4 7) 10 (replicate 5 8) 0 ≡ sessionStep (recordOf 4 7) 10 [] 0)
+unfolding sessionStep lentEnough isMessage sourceIn
+lent-source-unseen-met = (refl, refl)
 
 fourteen : _≡_ {A = ℕ} 14 0 → ⊥
 fourteen e = omega arith

@@ -76,6 +76,13 @@ sessionStep xs event source options =
 unfoldable pub sessionMessage : List ℕ → List ℕ → StepResult
 sessionMessage xs bytes = cond (leb 19 (length xs)) (resultOn (onMessage (sessionOf xs) bytes) xs) (stepResult shortStep xs)
 
+-- "A step looks at a Source ID only with a message": with any other event, and with a number that is no event, whatever is lent does the same.
+-- The proof stands in proofs/Laws/SessionCalls.antt.
+unfoldable pub LentSourceUnseen : Type 0
+LentSourceUnseen =
+    (xs : List ℕ) (event : ℕ) (a b : List ℕ) (options : ℕ) → isMessage event ≡ false
+    → sessionStep xs event a options ≡ sessionStep xs event b options
+
 -- What every refused call leaves ("Every refusal changes nothing, except 14 in an open session, which closes it"; "Closing changes the
 -- state's name only"). The proofs stand in proofs/Laws/Refusals.antt.
 

@@ -1,7 +1,9 @@
 -- Small examples of the session's steps, P12 of 01 among them. Each is computed. Assumes nothing.
+use Prim.Native.Nat.{ℕ}
 use mathlib.Core.Path.{_≡_, refl}
 use mathlib.Core.List.{List, [], _∷_}
 use mathlib.Core.Bool.{true, false}
+use native.Mathlib.Omega.{arith}
 use lib.ListN.{replicate}
 use Rattle.wire.specs.Below.{allBelow}
 use Rattle.wire.specs.declared.status.Status.the-variants as status
@@ -99,6 +101,17 @@ pub other-changes-nothing-met
     × (stepped (sessionIn state.Closed) strangeStop ≡ refused status.UnexpectedEvent 0 (sessionIn state.Closed))
 unfolding stepOf isEvent otherSource isMessage carried sameBytes allBelow
 other-changes-nothing-met = (refl, refl, refl, refl, refl)
+
+-- SourceUnseen: handshake done, beside the Source ID of another source and beside none
+pub source-unseen-met
+    : (isMessage 7 ≡ false) × (stepOf (sessionIn state.Handshake) 7 stranger 0 ≡ stepOf (sessionIn state.Handshake) 7 noSource 0)
+unfolding stepOf isEvent otherSource isMessage carried accepted sourceAfter
+source-unseen-met = (refl, refl)
+
+-- OptionsUnseen: Source Ready in Waiting, beside options 3 and 0
+pub options-unseen-met : (_≡_ {A = ℕ} 1 4 → ⊥) × (stepOf freshSession 1 sender 3 ≡ stepOf freshSession 1 sender 0)
+unfolding stepOf isEvent otherSource isMessage carried accepted sourceAfter optionsFrom
+options-unseen-met = (λ e. omega arith, refl)
 
 -- ReachedByReady: Source Ready in ReadyWait
 pub reached-by-ready-met

@@ -1,4 +1,6 @@
--- What holds of the session's steps and of any list of events. The proofs stand in proofs/Laws/Runs.antt. Assumes nothing.
+-- What holds of the session's steps and of any list of events. The proofs stand in proofs/Laws, in Runs.antt and, of what a step doesn't look
+-- at, Unseen.antt. Assumes nothing.
+use Prim.Native.Nat.{ℕ}
 use mathlib.Core.Path.{_≡_}
 use mathlib.Core.List.{List}
 use mathlib.Core.Logic.{_⊎_}
@@ -6,12 +8,13 @@ use mathlib.Core.Bool.{true, false, cond, _&&_}
 use lib.Dec.{eqb}
 use Rattle.wire.specs.Status.{numberOf}
 use Rattle.wire.specs.declared.status.Status.the-variants as status
+use Rattle.message_rules.specs.declared.accessors.SourceId.{SourceId}
 use Rattle.session_table.specs.declared.record.State.the-variants as state
 use Rattle.session_table.specs.declared.record.Session.{Session}
 use Rattle.session_table.specs.Record.{freshSession, isOpen}
-use Rattle.session_table.specs.Source.{carried, sameBytes}
+use Rattle.session_table.specs.Source.{isMessage, carried, sameBytes}
 use Rattle.session_table.specs.Table.{isEvent}
-use Rattle.session_step.specs.Step.{wantsPin, closed, refused}
+use Rattle.session_step.specs.Step.{wantsPin, closed, refused, stepOf}
 use Rattle.session_step.specs.Runs.{Event, stepped, next, run, statusOf, isAccepted, firstSource, pinRight}
 
 -- "In Closed every event is 14 and nothing changes": and so after any list of events
@@ -42,6 +45,14 @@ OtherChangesNothing =
     (s : Session) (e : Event) → s .source .present ≡ true → carried (e .number) (e .source) ≡ true
     → sameBytes (s .source .bytes) (e .source .bytes) ≡ false
     → (stepped s e ≡ refused (cond (isOpen (s .state)) status.OtherSource status.UnexpectedEvent) 0 s) × (next s e ≡ s)
+
+-- "A step looks at a Source ID only with a message, at options only with a Session Request" (4)
+unfoldable pub SourceUnseen : Type 0
+SourceUnseen =
+    (s : Session) (event : ℕ) (x y : SourceId) (options : ℕ) → isMessage event ≡ false → stepOf s event x options ≡ stepOf s event y options
+
+unfoldable pub OptionsUnseen : Type 0
+OptionsUnseen = (s : Session) (event : ℕ) (x : SourceId) (a b : ℕ) → (event ≡ 4 → ⊥) → stepOf s event x a ≡ stepOf s event x b
 
 -- Projecting is reached only by an accepted Source Ready (1)
 unfoldable pub ReachedByReady : Type 0

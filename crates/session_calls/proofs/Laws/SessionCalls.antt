@@ -1,7 +1,8 @@
 -- The calls of the session by their outcomes. Assumes nothing.
 use Prim.Native.Nat.{ℕ, _≤_, _<_}
-use mathlib.Core.Path.{_≡_, refl, sym, subst}
-use mathlib.Core.Bool.{Bool, true, false, _&&_, Bool·beq}
+use mathlib.Core.Path.{_≡_, refl, sym, _∙_, subst}
+use mathlib.Core.Bool.{Bool, true, false, _&&_, _||_, Bool·beq}
+use lib.Dec.{eqb, leb}
 use mathlib.Core.List.{List}
 use borrow.Author.Tests.{le-leb, lt-leb}
 use lib.ListN.{length}
@@ -11,13 +12,14 @@ use Rattle.message_reader.specs.declared.Answer.the-variants as reader
 use Rattle.message_reader.specs.Reading.{readMessage}
 use Rattle.message_rules.specs.Accessors.{sourceOf, optionsOf}
 use Rattle.session_table.specs.declared.record.Session.{Session}
-use Rattle.session_table.specs.Source.{sameBytes}
+use Rattle.session_table.specs.Source.{isMessage, sameBytes}
+use Rattle.session_step.proofs.Laws.Unseen as unseen
 use Rattle.session_step.proofs.Laws.Runs.{source-stays}
 use Rattle.session_step.specs.Step.{stepOf}
 use Rattle.session_step.specs.Message.{afterRead, onMessage}
 use Rattle.session_layout.specs.SessionLayout.{sessionOf}
 use Rattle.session_layout.proofs.Laws.SessionLayout.{beq-true, bytes-same}
-use Rattle.session_calls.specs.SessionCalls.{SourceStays, stepResult, shortStep, resultOn, sourceIn, lentEnough, sessionStep, sessionMessage}
+use Rattle.session_calls.specs.SessionCalls.{SourceStays, stepResult, shortStep, resultOn, sourceIn, lentEnough, sessionStep, sessionMessage, LentSourceUnseen}
 
 -- ---- a short record or Source ID, or a step
 
@@ -31,6 +33,26 @@ module _ (xs : List ℕ) (event : ℕ) (source : List ℕ) (options : ℕ) where
       → sessionStep xs event source options ≡ resultOn (stepOf (sessionOf xs) event (sourceIn source) options) xs
   unfolding sessionStep
   step-taken e = simp e
+
+-- a Source ID beside no message
+enough-unseen : (lent event : ℕ) (source : List ℕ) → isMessage event ≡ false → lentEnough lent event source ≡ leb 19 lent
+unfolding lentEnough
+enough-unseen lent event source e = simp e (by (leb 19 lent) (eqb (length source) 0) (leb 16 (length source)))
+  where
+    by : (r p q : Bool) → r && (p || (q || true)) ≡ r
+    by true true q = refl
+    by true false true = refl
+    by true false false = refl
+    by false p q = refl
+
+pub lent-source-unseen : LentSourceUnseen
+unfolding LentSourceUnseen sessionStep Rattle.session_step.specs.Theorems.SourceUnseen
+lent-source-unseen xs event a b options e =
+    let enough : lentEnough (length xs) event a ≡ lentEnough (length xs) event b
+    = enough-unseen (length xs) event a e ∙ sym (enough-unseen (length xs) event b e) in
+    let same : stepOf (sessionOf xs) event (sourceIn a) options ≡ stepOf (sessionOf xs) event (sourceIn b) options
+    = unseen.source-unseen (sessionOf xs) event (sourceIn a) (sourceIn b) options e in
+    rw (enough, same)
 
 module _ (xs bytes : List ℕ) where
   pub message-short : length xs < 19 → sessionMessage xs bytes ≡ stepResult shortStep xs
