@@ -16,7 +16,7 @@ use Rattle.message_rules.specs.Rules.{rolesOf, roleOf, lengthsOf, lengthIn, len
 use Rattle.message_rules.specs.Record.{fieldOf, withField, emptyOf}
 use Rattle.message_rules.specs.Accessors.{sourceOf, optionsOf}
 use Rattle.message_reader.specs.Reading.{headerStatus, tlvAt, hasNeeded, isComplete, lastOf, tlvsFrom, readMessage}
-use Rattle.session_table.specs.Source.{isMessage, carried, otherSource, sameBytes}
+use Rattle.session_table.specs.Source.{carried, otherSource, sameBytes}
 use Rattle.session_table.specs.Table.{isEvent}
 use Rattle.session_step.specs.Step.{sourceAfter, accepted, stepOf}
 use Rattle.session_step.specs.Message.{onMessage}
@@ -34,7 +34,7 @@ answer status check = record { status = status; check = check; place = 0 }
 
 -- Connection lost (10) in Projecting closes with five bytes of Source ID too; where the session changes, a flag of 7 becomes 1.
 pub lost-with-five-bytes : sessionStep (recordOf 4 7) 10 (replicate 5 8) 0 ≡ stepResult (answer 0 false) (recordOf 5 1)
-unfolding sessionStep lentEnough isMessage bytesLeft sameSession sameBytes allBelow sourceIn stepOf isEvent otherSource carried accepted
+unfolding sessionStep lentEnough knownCommand bytesLeft sameSession sameBytes allBelow sourceIn stepOf isEvent otherSource carried accepted
     sourceAfter sessionOf stateOf numberAt numberIn idAt copied splice laid sessionBytes bytesIn
 lost-with-five-bytes = refl
 
@@ -42,18 +42,18 @@ lost-with-five-bytes = refl
 pub no-event-with-five-bytes
     : (sessionStep (recordOf 4 7) 11 (replicate 5 8) 0 ≡ stepResult (answer 4 false) (recordOf 4 7))
     × (sessionStep (replicate 18 0) 11 (replicate 5 8) 0 ≡ stepResult (answer 10 false) (replicate 18 0))
-unfolding sessionStep lentEnough isMessage bytesLeft sameSession sameBytes allBelow sourceIn stepOf isEvent otherSource carried sessionOf
+unfolding sessionStep lentEnough knownCommand bytesLeft sameSession sameBytes allBelow sourceIn stepOf isEvent otherSource carried sessionOf
     stateOf numberAt numberIn idAt copied splice
 no-event-with-five-bytes = (refl, refl)
 
 -- With a message five bytes are 10.
 pub message-with-five-bytes : sessionStep (recordOf 4 7) 2 (replicate 5 8) 0 ≡ stepResult (answer 10 false) (recordOf 4 7)
-unfolding sessionStep lentEnough isMessage
+unfolding sessionStep lentEnough knownCommand
 message-with-five-bytes = refl
 
 -- PIN Challenge (5) in PinWait is accepted and changes nothing: the flag of 7 stays.
 pub challenge-keeps : sessionStep (recordOf 2 7) 5 (replicate 16 5) 0 ≡ stepResult (answer 0 true) (recordOf 2 7)
-unfolding sessionStep lentEnough isMessage bytesLeft sameSession sameBytes allBelow sourceIn stepOf isEvent otherSource carried accepted
+unfolding sessionStep lentEnough knownCommand bytesLeft sameSession sameBytes allBelow sourceIn stepOf isEvent otherSource carried accepted
     sourceAfter sessionOf stateOf numberAt numberIn idAt copied splice
 challenge-keeps = refl
 
@@ -62,8 +62,8 @@ challenge-keeps = refl
 
 -- LentSourceUnseen: connection lost beside five bytes and beside none
 pub lent-source-unseen-met
-    : (isMessage 10 ≡ false) × (sessionStep (recordOf 4 7) 10 (replicate 5 8) 0 ≡ sessionStep (recordOf 4 7) 10 [] 0)
-unfolding sessionStep lentEnough isMessage sourceIn
+    : (knownCommand 10 ≡ false) × (sessionStep (recordOf 4 7) 10 (replicate 5 8) 0 ≡ sessionStep (recordOf 4 7) 10 [] 0)
+unfolding sessionStep lentEnough knownCommand sourceIn
 lent-source-unseen-met = (refl, refl)
 
 fourteen : _≡_ {A = ℕ} 14 0 → ⊥
@@ -82,7 +82,7 @@ pub step-refusal-keeps-met
     × (sessionStep (recordOf 4 7) 1 (replicate 16 5) 0 ≡ stepResult (answer 14 false) (recordOf 5 7))
     × (sessionStep (recordOf 4 7) 2 (replicate 16 8) 0 .answer .status ≡ 0 → ⊥)
     × (sessionStep (recordOf 4 7) 2 (replicate 16 8) 0 ≡ stepResult (answer 15 false) (recordOf 4 7))
-unfolding sessionStep lentEnough isMessage bytesLeft sameSession sameBytes allBelow sourceIn stepOf isEvent otherSource carried sessionOf
+unfolding sessionStep lentEnough knownCommand bytesLeft sameSession sameBytes allBelow sourceIn stepOf isEvent otherSource carried sessionOf
     stateOf numberAt numberIn idAt copied splice writtenIn bytesIn
 step-refusal-keeps-met = (fourteen, refl, fifteen, refl)
 
@@ -96,7 +96,7 @@ pub message-refusal-keeps-met
     × (sessionMessage (recordOf 4 7) handshake ≡ stepResult (answer 14 false) (recordOf 5 7))
     × (sessionMessage (recordOf 4 7) [] .answer .status ≡ 0 → ⊥)
     × (sessionMessage (recordOf 4 7) [] ≡ stepResult (answer 1 false) (recordOf 4 7))
-unfolding sessionMessage onMessage bytesLeft sameSession sameBytes allBelow stepOf isEvent otherSource carried isMessage sessionOf stateOf
+unfolding sessionMessage onMessage bytesLeft sameSession sameBytes allBelow stepOf isEvent otherSource carried sessionOf stateOf
     numberAt numberIn idAt copied splice writtenIn bytesIn rolesOf roleOf lengthsOf lengthIn lengthOk knownCommand fieldOf withField emptyOf
     sourceOf optionsOf headerStatus tlvAt hasNeeded isComplete lastOf tlvsFrom readMessage firstOf
 message-refusal-keeps-met = (fourteen, refl, one, refl)

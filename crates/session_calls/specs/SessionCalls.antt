@@ -5,6 +5,7 @@ use mathlib.Core.Bool.{Bool, true, false, not, cond, _&&_, _||_}
 use mathlib.Core.List.{List}
 use lib.Dec.{eqb, leb}
 use lib.ListN.{length}
+use Rattle.message_rules.specs.Rules.{knownCommand}
 use Rattle.wire.specs.declared.status.Status.the-variants as status
 use Rattle.wire.specs.Status.{numberOf}
 use Rattle.wire.specs.Number.{written}
@@ -13,7 +14,6 @@ use Rattle.message_rules.specs.Accessors.{noSource}
 use Rattle.session_table.specs.declared.record.State.the-variants as state
 use Rattle.session_table.specs.declared.record.Session.{Session}
 use Rattle.session_table.specs.Record.{isOpen}
-use Rattle.session_table.specs.Source.{isMessage}
 use Rattle.session_step.specs.declared.step.Answer.{Answer}
 use Rattle.session_step.specs.declared.step.Stepped.{Stepped}
 use Rattle.session_step.specs.Step.{stepOf}
@@ -65,7 +65,7 @@ sourceIn xs = cond (leb 16 (length xs)) (sourceAt true 0 xs) noSource
 -- The record has its 19 bytes; and the lent Source ID is none, or has its 16, or is not looked at, since the event is no message. So 4 for a
 -- number that is no event comes before the 10 for a Source ID of 1 to 15 bytes, and the 10 for a short record before both.
 unfoldable pub lentEnough : ℕ → ℕ → List ℕ → Bool
-lentEnough lent event source = leb 19 lent && (eqb (length source) 0 || (leb 16 (length source) || not (isMessage event)))
+lentEnough lent event source = leb 19 lent && (eqb (length source) 0 || (leb 16 (length source) || not (knownCommand event)))
 
 -- a step with an event, on the session in the record xs
 unfoldable pub sessionStep : List ℕ → ℕ → List ℕ → ℕ → StepResult
@@ -80,7 +80,7 @@ sessionMessage xs bytes = cond (leb 19 (length xs)) (resultOn (onMessage (sessio
 -- The proof stands in proofs/Laws/SessionCalls.antt.
 unfoldable pub LentSourceUnseen : Type 0
 LentSourceUnseen =
-    (xs : List ℕ) (event : ℕ) (a b : List ℕ) (options : ℕ) → isMessage event ≡ false
+    (xs : List ℕ) (event : ℕ) (a b : List ℕ) (options : ℕ) → knownCommand event ≡ false
     → sessionStep xs event a options ≡ sessionStep xs event b options
 
 -- What every refused call leaves ("Every refusal changes nothing, except 14 in an open session, which closes it"; "Closing changes the

@@ -8,12 +8,12 @@ ghost use Rattle.host_answers.specs.Fresh.{freshAnswer};
 ghost use Rattle.session_calls.specs.SessionCalls.{SourceStays, stepResult, shortStep, answerOf, resultOf, sourceIn, lentEnough, sessionStep, sessionMessage};
 use host_answers::Step;
 use message_rules::accessors::SourceId;
+use message_rules::rules;
 use session_step::message_step;
 use session_step::step;
 use session_step::step::Answer;
 use session_step::step::Stepped;
 use session_table::record::Session;
-use session_table::source;
 use wire::number::put_u8;
 use wire::status;
 use wire::status::Status;
@@ -113,7 +113,7 @@ fn lent_enough(lent: usize, event: u8, source: &[u8]) -> bool
     if 16 <= source.len() {
         return true;
     }
-    !source::is_message(event)
+    !rules::known_command(event)
 }
 
 // A step with an event: 1 to 6 the commands of messages, 7 handshake done, 8 PIN right, 9 PIN wrong, 10 connection lost. With a message `source`

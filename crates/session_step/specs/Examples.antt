@@ -5,6 +5,7 @@ use mathlib.Core.List.{List, [], _∷_}
 use mathlib.Core.Bool.{true, false}
 use native.Mathlib.Omega.{arith}
 use lib.ListN.{replicate}
+use Rattle.message_rules.specs.Rules.{knownCommand}
 use Rattle.wire.specs.Below.{allBelow}
 use Rattle.wire.specs.declared.status.Status.the-variants as status
 use Rattle.message_rules.specs.declared.accessors.SourceId.{SourceId}
@@ -13,7 +14,7 @@ use Rattle.session_table.specs.declared.record.State.the-variants as state
 use Rattle.message_rules.specs.Accessors.{noSource}
 use Rattle.session_table.specs.declared.record.Session.{Session}
 use Rattle.session_table.specs.Record.{freshSession}
-use Rattle.session_table.specs.Source.{isMessage, carried, otherSource, sameBytes}
+use Rattle.session_table.specs.Source.{carried, otherSource, sameBytes}
 use Rattle.session_table.specs.Table.{isEvent}
 use Rattle.session_step.specs.Step.{wantsPin, pinOrReady, optionsFrom, sourceAfter, accepted, refused, closed, steppedTo, stepOf}
 use Rattle.session_step.specs.Runs.{Event, stepped, next, run, isAccepted, pinRight}
@@ -43,7 +44,7 @@ withPin =
     record { number = 1; source = sender; options = 0 } ∷ []
 
 pub projects : run freshSession withPin ≡ record { state = state.Projecting; options = 3; source = sender }
-unfolding run stepOf isEvent otherSource isMessage carried sameBytes allBelow accepted sourceAfter optionsFrom pinOrReady wantsPin
+unfolding run stepOf isEvent otherSource knownCommand carried sameBytes allBelow accepted sourceAfter optionsFrom pinOrReady wantsPin
 projects = refl
 
 -- The premises of the theorems are met. Beside them stands what the theorem then says, computed.
@@ -82,14 +83,14 @@ pub refusal-keeps-met
     × (stepped (sessionIn state.PinWait) ready ≡ refused status.UnexpectedEvent 0 (closed (sessionIn state.PinWait)))
     × (isAccepted (sessionIn state.PinWait) strangeStop ≡ false)
     × (stepped (sessionIn state.PinWait) strangeStop ≡ refused status.OtherSource 0 (sessionIn state.PinWait))
-unfolding stepOf isEvent otherSource isMessage carried sameBytes allBelow
+unfolding stepOf isEvent otherSource knownCommand carried sameBytes allBelow
 refusal-keeps-met = (refl, refl, refl, refl)
 
 -- KeptForGood: the sender's Source ID after six events, the first of another source
 pub kept-for-good-met
     : (sessionIn state.Handshake .source .present ≡ true)
     × (run (sessionIn state.Handshake) (strangeStop ∷ withPin) .source ≡ sender)
-unfolding run stepOf isEvent otherSource isMessage carried sameBytes allBelow
+unfolding run stepOf isEvent otherSource knownCommand carried sameBytes allBelow
 kept-for-good-met = (refl, refl)
 
 -- OtherChangesNothing: Stop Projection of another source, 15 in Projecting and 14 in Closed
@@ -99,24 +100,24 @@ pub other-changes-nothing-met
     × (sameBytes (sender .bytes) (stranger .bytes) ≡ false)
     × (stepped (sessionIn state.Projecting) strangeStop ≡ refused status.OtherSource 0 (sessionIn state.Projecting))
     × (stepped (sessionIn state.Closed) strangeStop ≡ refused status.UnexpectedEvent 0 (sessionIn state.Closed))
-unfolding stepOf isEvent otherSource isMessage carried sameBytes allBelow
+unfolding stepOf isEvent otherSource knownCommand carried sameBytes allBelow
 other-changes-nothing-met = (refl, refl, refl, refl, refl)
 
 -- SourceUnseen: handshake done, beside the Source ID of another source and beside none
 pub source-unseen-met
-    : (isMessage 7 ≡ false) × (stepOf (sessionIn state.Handshake) 7 stranger 0 ≡ stepOf (sessionIn state.Handshake) 7 noSource 0)
-unfolding stepOf isEvent otherSource isMessage carried accepted sourceAfter
+    : (knownCommand 7 ≡ false) × (stepOf (sessionIn state.Handshake) 7 stranger 0 ≡ stepOf (sessionIn state.Handshake) 7 noSource 0)
+unfolding stepOf isEvent otherSource knownCommand carried accepted sourceAfter
 source-unseen-met = (refl, refl)
 
 -- OptionsUnseen: Source Ready in Waiting, beside options 3 and 0
 pub options-unseen-met : (_≡_ {A = ℕ} 1 4 → ⊥) × (stepOf freshSession 1 sender 3 ≡ stepOf freshSession 1 sender 0)
-unfolding stepOf isEvent otherSource isMessage carried accepted sourceAfter optionsFrom
+unfolding stepOf isEvent otherSource knownCommand carried accepted sourceAfter optionsFrom
 options-unseen-met = (λ e. omega arith, refl)
 
 -- ReachedByReady: Source Ready in ReadyWait
 pub reached-by-ready-met
     : (next (sessionIn state.ReadyWait) ready .state ≡ state.Projecting) × (isAccepted (sessionIn state.ReadyWait) ready ≡ true)
-unfolding stepOf isEvent otherSource isMessage carried sameBytes allBelow accepted
+unfolding stepOf isEvent otherSource knownCommand carried sameBytes allBelow accepted
 reached-by-ready-met = (refl, refl)
 
 -- PinBeforeProjecting: the session with a PIN
@@ -124,5 +125,5 @@ pub pin-before-projecting-met
     : (run freshSession withPin .state ≡ state.Projecting)
     × (wantsPin (run freshSession withPin .options) ≡ true)
     × (pinRight freshSession withPin ≡ true)
-unfolding run pinRight stepOf isEvent otherSource isMessage carried sameBytes allBelow accepted sourceAfter optionsFrom pinOrReady wantsPin
+unfolding run pinRight stepOf isEvent otherSource knownCommand carried sameBytes allBelow accepted sourceAfter optionsFrom pinOrReady wantsPin
 pin-before-projecting-met = (refl, refl, refl)

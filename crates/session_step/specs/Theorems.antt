@@ -6,13 +6,14 @@ use mathlib.Core.List.{List}
 use mathlib.Core.Logic.{_⊎_}
 use mathlib.Core.Bool.{true, false, cond, _&&_}
 use lib.Dec.{eqb}
+use Rattle.message_rules.specs.Rules.{knownCommand}
 use Rattle.wire.specs.Status.{numberOf}
 use Rattle.wire.specs.declared.status.Status.the-variants as status
 use Rattle.message_rules.specs.declared.accessors.SourceId.{SourceId}
 use Rattle.session_table.specs.declared.record.State.the-variants as state
 use Rattle.session_table.specs.declared.record.Session.{Session}
 use Rattle.session_table.specs.Record.{freshSession, isOpen}
-use Rattle.session_table.specs.Source.{isMessage, carried, sameBytes}
+use Rattle.session_table.specs.Source.{carried, sameBytes}
 use Rattle.session_table.specs.Table.{isEvent}
 use Rattle.session_step.specs.Step.{wantsPin, closed, refused, stepOf}
 use Rattle.session_step.specs.Runs.{Event, stepped, next, run, statusOf, isAccepted, firstSource, pinRight}
@@ -49,7 +50,7 @@ OtherChangesNothing =
 -- "A step looks at a Source ID only with a message, at options only with a Session Request" (4)
 unfoldable pub SourceUnseen : Type 0
 SourceUnseen =
-    (s : Session) (event : ℕ) (x y : SourceId) (options : ℕ) → isMessage event ≡ false → stepOf s event x options ≡ stepOf s event y options
+    (s : Session) (event : ℕ) (x y : SourceId) (options : ℕ) → knownCommand event ≡ false → stepOf s event x options ≡ stepOf s event y options
 
 unfoldable pub OptionsUnseen : Type 0
 OptionsUnseen = (s : Session) (event : ℕ) (x : SourceId) (a b : ℕ) → (event ≡ 4 → ⊥) → stepOf s event x a ≡ stepOf s event x b

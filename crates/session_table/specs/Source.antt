@@ -3,9 +3,10 @@ use Prim.Native.Nat.{ℕ}
 use mathlib.Core.List.{List}
 use mathlib.Core.Bool.{Bool, not, _&&_}
 use lib.ListN.{getD}
-use lib.Dec.{leb, eqb}
+use lib.Dec.{eqb}
 use Rattle.wire.specs.Below.{allBelow}
 use Rattle.message_rules.specs.declared.accessors.SourceId.{SourceId}
+use Rattle.message_rules.specs.Rules.{knownCommand}
 use Rattle.session_table.specs.declared.record.Session.{Session}
 use Rattle.session_table.specs.Record.{isOpen}
 
@@ -16,13 +17,9 @@ sameAt a b k = eqb (getD a k 0) (getD b k 0)
 unfoldable pub sameBytes : List ℕ → List ℕ → Bool
 sameBytes a b = allBelow 16 (sameAt a b)
 
--- the messages among the events: their commands are 1 to 6
-unfoldable pub isMessage : ℕ → Bool
-isMessage event = leb 1 event && leb event 6
-
--- "A step looks at a Source ID only with a message"
+-- "A step looks at a Source ID only with a message": the messages among the events are the commands that there are
 unfoldable pub carried : ℕ → SourceId → Bool
-carried event source = source .present && isMessage event
+carried event source = source .present && knownCommand event
 
 -- the session is open and has kept a Source ID, and the event is a message that carries a different one
 unfoldable pub otherSource : Session → ℕ → SourceId → Bool

@@ -1,9 +1,10 @@
 // Which source a message comes from.
 ghost use mathlib.Core.Path.{_≡_};
-ghost use Rattle.session_table.specs.Source.{sameBytes, isMessage, carried, otherSource};
+ghost use Rattle.session_table.specs.Source.{sameBytes, carried, otherSource};
 use crate::record::Session;
 use crate::record::is_open;
 use message_rules::accessors::SourceId;
+use message_rules::rules;
 
 // Whether two Source IDs have the same 16 bytes.
 pub(crate) fn same(a: &[u8; 16], b: &[u8; 16]) -> bool
@@ -19,16 +20,6 @@ pub(crate) fn same(a: &[u8; 16], b: &[u8; 16]) -> bool
     true
 }
 
-// Whether the event is a message: the commands are 1 to 6.
-pub fn is_message(event: u8) -> bool
-    ensures { λ r. ⌜ r ≡ isMessage event ⌝ }
-{
-    if event < 1 {
-        return false;
-    }
-    event <= 6
-}
-
 // Whether the event is a message that carries a Source ID.
 pub fn carries(event: u8, source: SourceId) -> bool
     ensures { λ r. ⌜ r ≡ carried event source ⌝ }
@@ -36,7 +27,7 @@ pub fn carries(event: u8, source: SourceId) -> bool
     if !source.present {
         return false;
     }
-    is_message(event)
+    rules::known_command(event)
 }
 
 // Whether, in an open state, the event is a message that carries another Source ID than the kept one.

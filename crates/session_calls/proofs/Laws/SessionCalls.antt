@@ -6,13 +6,14 @@ use lib.Dec.{eqb, leb}
 use mathlib.Core.List.{List}
 use borrow.Author.Tests.{le-leb, lt-leb}
 use lib.ListN.{length}
+use Rattle.message_rules.specs.Rules.{knownCommand}
 use Rattle.message_rules.specs.declared.accessors.SourceId.{SourceId}
 use Rattle.message_reader.specs.declared.Answer.{Answer}
 use Rattle.message_reader.specs.declared.Answer.the-variants as reader
 use Rattle.message_reader.specs.Reading.{readMessage}
 use Rattle.message_rules.specs.Accessors.{sourceOf, optionsOf}
 use Rattle.session_table.specs.declared.record.Session.{Session}
-use Rattle.session_table.specs.Source.{isMessage, sameBytes}
+use Rattle.session_table.specs.Source.{sameBytes}
 use Rattle.session_step.proofs.Laws.Unseen as unseen
 use Rattle.session_step.proofs.Laws.Runs.{source-stays}
 use Rattle.session_step.specs.Step.{stepOf}
@@ -35,7 +36,7 @@ module _ (xs : List ℕ) (event : ℕ) (source : List ℕ) (options : ℕ) where
   step-taken e = simp e
 
 -- a Source ID beside no message
-enough-unseen : (lent event : ℕ) (source : List ℕ) → isMessage event ≡ false → lentEnough lent event source ≡ leb 19 lent
+enough-unseen : (lent event : ℕ) (source : List ℕ) → knownCommand event ≡ false → lentEnough lent event source ≡ leb 19 lent
 unfolding lentEnough
 enough-unseen lent event source e = simp e (by (leb 19 lent) (eqb (length source) 0) (leb 16 (length source)))
   where

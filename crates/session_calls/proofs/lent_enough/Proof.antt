@@ -7,7 +7,7 @@ use borrow.Author.Tests.{eq-eqb, ne-eqb, le-leb, lt-leb}
 use lib.Dec.{eqb, leb}
 use lib.ListN.{length}
 use denote.Ref.{now}
-use Rattle.session_table.specs.Source.{isMessage}
+use Rattle.message_rules.specs.Rules.{knownCommand}
 use Rattle.session_calls.specs.SessionCalls.{lentEnough}
 use Rattle.session_calls.proofs.lent_enough.Statement.{statement}
 use Rattle.session_calls.proofs.lent_enough.Tie as tie
@@ -43,7 +43,7 @@ returns-4 c =
     let lent : leb 19 (a .lent) ≡ true = le-leb 19 (a .lent) (omega arith) in
     let some : eqb (length (now (a .source))) 0 ≡ false = ne-eqb _ _ (i .before .if2 .left) in
     let cut : leb 16 (length (now (a .source))) ≡ false = lt-leb 16 _ (i .if3 .left) in
-    let message : c .is-message .result ≡ isMessage (a .event) = c .is-message .ensures in
+    let message : c .known-command .result ≡ knownCommand (a .event) = c .known-command .ensures in
     simp (lent, some, cut, message)
 
 pub lent-enough-spec : {M : Type 1} → statement M

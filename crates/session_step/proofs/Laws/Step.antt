@@ -5,21 +5,22 @@ use mathlib.Core.Bool.{Bool, true, false, not, cond, _&&_}
 use native.Mathlib.Omega.{arith}
 use borrow.Author.Tests.{le-leb, leb-true}
 use lib.Dec.{leb}
+use Rattle.message_rules.specs.Rules.{knownCommand}
 use Rattle.wire.proofs.Laws.Bool.{both}
 use Rattle.wire.specs.declared.status.Status.the-variants as status
 use Rattle.message_rules.specs.declared.accessors.SourceId.{SourceId}
 use Rattle.session_table.specs.declared.record.Session.{Session}
 use Rattle.session_table.specs.declared.table.Next.the-variants as next
 use Rattle.session_table.specs.Record.{isOpen}
-use Rattle.session_table.specs.Source.{sameBytes, isMessage, carried, otherSource}
+use Rattle.session_table.specs.Source.{sameBytes, carried, otherSource}
 use Rattle.session_table.specs.Table.{table, isEvent, expectedOf}
 use Rattle.session_step.specs.Step.{refused, follow, stepOf}
 
 -- a message is an event
 pub carried-event : (event : ℕ) (x : SourceId) → carried event x ≡ true → isEvent event ≡ true
-unfolding isMessage carried isEvent
+unfolding knownCommand carried isEvent
 carried-event event x e =
-    let h = both (leb 1 event) (leb event 6) (both (x .present) (isMessage event) e .1) in
+    let h = both (leb 1 event) (leb event 6) (both (x .present) (knownCommand event) e .1) in
     simp (h .0, le-leb event 10 (omega (arith, leb-true event 6 (h .1))))
 
 -- only a message is of another source

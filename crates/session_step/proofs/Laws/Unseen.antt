@@ -3,6 +3,7 @@ use Prim.Native.Nat.{ℕ}
 use mathlib.Core.Path.{_≡_, refl}
 use mathlib.Core.Bool.{Bool, true, false}
 use borrow.Author.Tests.{ne-eqb}
+use Rattle.message_rules.specs.Rules.{knownCommand}
 use Rattle.wire.proofs.Laws.Bool.{and-false}
 use Rattle.message_rules.specs.declared.accessors.SourceId.{SourceId}
 use Rattle.session_table.specs.declared.record.State.{State}
@@ -10,7 +11,7 @@ use Rattle.session_table.specs.declared.record.State.the-variants as state
 use Rattle.session_table.specs.declared.record.Session.{Session}
 use Rattle.session_table.specs.declared.table.Next.{Next}
 use Rattle.session_table.specs.declared.table.Next.the-variants.{NoEvent, Unexpected, CheckPin, PinOrReady, ToHandshake, ToReadyWait, ToProjecting, ToClosed}
-use Rattle.session_table.specs.Source.{isMessage, carried, otherSource}
+use Rattle.session_table.specs.Source.{carried, otherSource}
 use Rattle.session_table.specs.Table.{table}
 use Rattle.session_step.specs.Step.{pinOrReady, optionsFrom, optionsAfter, sourceAfter, accepted, follow, stepOf}
 use Rattle.session_step.specs.Theorems.{SourceUnseen, OptionsUnseen}
@@ -35,7 +36,7 @@ stepped-same
 unfolding stepOf
 stepped-same s event x y a b o h = rw (o, followed (table (s .state) event) s event x y a b h)
 
-none-carried : (event : ℕ) (x : SourceId) → isMessage event ≡ false → carried event x ≡ false
+none-carried : (event : ℕ) (x : SourceId) → knownCommand event ≡ false → carried event x ≡ false
 unfolding carried
 none-carried event x e = simp e (and-false (x .present))
 

@@ -12,7 +12,7 @@ returns c = simp (not-true (c .before .before .args .source .present) (c .if1 .t
 returns-2 : tie.Need-returns-2
 unfolding carried
 returns-2 c =
-    simp (not-false (c .before .before .before .args .source .present) (c .before .if1 .left), ← c .is-message .ensures)
+    simp (not-false (c .before .before .before .args .source .present) (c .before .if1 .left), ← c .known-command .ensures)
 
 pub carries-spec : {M : Type 1} → statement M
 carries-spec = tie.close (tie.spec returns (λ c κs. search needs) returns-2)
