@@ -2,6 +2,7 @@
 use mathlib.Core.Path.{_≡_, sym, _∙_}
 use mathlib.Core.Bool.{true, false}
 use denote.Ref.{now}
+use Rattle.wire.specs.Sequence.{isNewer}
 use Rattle.cursor_fragment.specs.Fragment.{isStart}
 use Rattle.cursor_store.specs.Storing.{moves}
 use borrow.Author.Needs.{needs}
@@ -15,7 +16,8 @@ returns c =
     let i = k .before .before in
     let a = i .before .before .args in
     let starts : isStart (now (a .packet)) ≡ true = sym (i .is-start .ensures) ∙ k .before .if1 .taken in
-    c .newer .ensures ∙ rw (k .position .ensures) (simp starts)
+    let newer : c .newer .result ≡ isNewer (a .pointer .known) (a .pointer .sequence) (k .position .result .sequence) = c .newer .ensures in
+    newer ∙ rw (k .position .ensures) (simp starts)
 
 returns-2 : tie.Need-returns-2
 unfolding moves
