@@ -1,7 +1,8 @@
 //! Cursor packets, read and assembled.
 //!
 //! The layouts are those of 003 sections 2.2 to 2.2.3; the refusals, their order and the rules for
-//! the pointer and the picture are those of paper 01, "Cursor packets".
+//! the pointer and the picture are those of paper 01, "Cursor packets". Of the RTP header 02 §2
+//! judges the first two bytes only; timestamp and SSRC are ignored.
 
 use std::cmp::Ordering;
 use std::ops::Range;
@@ -264,15 +265,15 @@ struct Header {
 }
 
 impl Header {
-    /// Reads the header: fewer than 15 bytes is 1, a wrong RTP field 3.
+    /// Reads the header: fewer than 15 bytes is 1; a first byte that is not 80 hex, or a second
+    /// that is not 0, is 3. Timestamp and SSRC, bytes 4 to 11, may hold anything (02 §2).
     fn read(packet: &[u8]) -> Result<Self, Refusal> {
-        let Some(&[first, second, s1, s0, unused @ .., kind, z1, z0]) =
+        let Some(&[first, second, s1, s0, .., kind, z1, z0]) =
             packet.first_chunk::<{ RTP_HEADER + PREFIX }>()
         else {
             return Err(Refusal::TooFewBytes);
         };
-        // Timestamp and SSRC are the eight bytes that are not used.
-        if first != 0x80 || second != 0 || unused != [0; 8] {
+        if first != 0x80 || second != 0 {
             return Err(Refusal::WrongHeader);
         }
         Ok(Header {

@@ -1,7 +1,7 @@
-//! The examples of the source documents' section 4, as bytes.
+//! The examples of the source documents' section 4, and those for 02 §2, as bytes.
 //!
-//! The bytes are those printed in the documents. Where a document leaves something out (a size, a
-//! payload, an RTP header), the note says what stands in its place.
+//! The bytes of section 4 are those printed in the documents. Where a document leaves something out
+//! (a size, a payload, an RTP header), the note says what stands in its place.
 
 use crate::refusal::Refusal;
 
@@ -232,6 +232,31 @@ pub const POSITION: [u8; 19] = [
     0x00, 0x0C, // Xpos 12
     0x00, 0x0A, // Ypos 10
 ];
+
+/// P9 of paper 01 with timestamp and SSRC filled, which 02 §2 lets through.
+#[rustfmt::skip]
+pub const FIELDS_FILLED: [u8; 19] = [
+    0x80, 0x00, 0x00, 0x05, 0x11, 0x22, 0x33, 0x44, 0xAA, 0xBB, 0xCC, 0xDD, // RTP
+    0x01, // MsgType
+    0x00, 0x07, // PacketMsgSize
+    0xFF, 0xFE, // Xpos -2
+    0x00, 0x0A, // Ypos 10
+];
+
+/// The packets for 02 §2, each with a name and with what the call for positions answers.
+pub const UNUSED_FIELDS: [(&str, &[u8], Refusal); 4] = [
+    ("fields-filled", &FIELDS_FILLED, Refusal::Accepted),
+    ("first-byte-81", &filled_with(0, 0x81), Refusal::WrongHeader),
+    ("first-14-bytes", FIELDS_FILLED.split_at(14).0, Refusal::TooFewBytes),
+    ("second-byte-01", &filled_with(1, 0x01), Refusal::WrongHeader),
+];
+
+/// [`FIELDS_FILLED`] with another byte at this place.
+const fn filled_with(place: usize, byte: u8) -> [u8; 19] {
+    let mut packet = FIELDS_FILLED;
+    packet[place] = byte;
+    packet
+}
 
 /// TotalImageDataSize of the example image in 003 section 4.
 pub const IMAGE_TOTAL: usize = 0x200;

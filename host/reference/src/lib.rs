@@ -6,7 +6,8 @@
 //! so that another implementation can be compared with it, input by input.
 //!
 //! The sources are cited by number: 000 is MS-MICE 2.0, 001 is MS-MICE 3.0 (which decides over
-//! 000), 003 is MS-WDHCE. "Paper 01" gives the refusals, their order and the session table.
+//! 000), 003 is MS-WDHCE. "Paper 01" gives the refusals, their order and the session table; "02 §2"
+//! is a section of paper 02 (`02-change-requests.md`), which changes paper 01.
 //!
 //! Every function takes any bytes, any numbers and any record, and ends without a panic. A refusal
 //! changes nothing, except that refusal 14 closes an open session.

@@ -2,7 +2,7 @@
 
 mod common;
 
-use common::{continuation, packet, position, start, Start, START};
+use common::{continuation, packet, position, start, unused_fields, with_unused, Start, START};
 use reference::cursor::{self, Picture, Pointer, LARGEST_PICTURE};
 
 /// Records with the picture and marks that are lent.
@@ -110,17 +110,84 @@ fn refusals_1_to_4() {
         assert_eq!(Sink::fresh(10).store(&whole[..length]), 1);
     }
     assert_eq!(Sink::fresh(10).store(&[&whole[..], &[0]].concat()), 2);
-    for place in (0..12).filter(|place| ![2, 3].contains(place)) {
-        let mut bytes = whole.clone();
-        bytes[place] ^= 0x10;
-        assert_eq!(Sink::fresh(10).store(&bytes), 3);
-    }
     for kind in (0..=255).filter(|kind| ![2, 3].contains(kind)) {
         let mut bytes = whole.clone();
         bytes[12] = kind;
         assert_eq!(Sink::fresh(10).store(&bytes), 4);
     }
     assert_eq!(Sink::fresh(10).store(&position(1, 2, 3)), 4);
+}
+
+/// 02 §2: of the RTP header the first two bytes are judged.
+#[test]
+fn every_other_pair_of_first_bytes_is_3() {
+    for whole in [start(1, 1, 8, START, b"AB"), continuation(1, 1, 8, 0, b"AB")] {
+        for pair in 0..=u16::MAX {
+            let mut bytes = whole.clone();
+            bytes[..2].copy_from_slice(&pair.to_be_bytes());
+            let right = pair == 0x8000;
+            assert_eq!(Sink::fresh(10).store(&bytes), if right { 0 } else { 3 }, "{pair:04X}");
+            assert_eq!(Sink::fresh(10).store(&bytes[..14]), 1, "1 comes before 3");
+            bytes[12] = 1;
+            assert_eq!(Sink::fresh(10).store(&bytes), if right { 4 } else { 3 });
+        }
+    }
+}
+
+/// 02 §2: two packets that differ only in timestamp and SSRC give the same answer and state.
+#[test]
+fn timestamp_and_ssrc_are_ignored() {
+    let sink = opened();
+    let mut not_held = opened();
+    not_held.record.total = 11;
+    let adds = continuation(101, 1, 8, 5, b"FG");
+    let with = |place: usize, byte| {
+        let mut bytes = adds.clone();
+        bytes[place] = byte;
+        bytes
+    };
+    for (before, packet, number) in [
+        (&sink, adds.clone(), 0),
+        (&sink, start(101, 1, 8, START, b"AB"), 0),
+        (&sink, start(101, 2, 4, START, b"AB"), 0),
+        (&sink, continuation(101, 2, 4, 1, b"B"), 0),
+        (&sink, adds[..7].to_vec(), 1),
+        (&sink, adds[..14].to_vec(), 1),
+        (&sink, adds[..20].to_vec(), 1),
+        (&sink, with(14, 12), 2),
+        (&sink, [&adds[..], &[0]].concat(), 2),
+        (&sink, with(0, 0x81), 3),
+        (&sink, with(1, 1), 3),
+        (&sink, with(12, 1), 4),
+        (&sink, continuation(101, 1, 8, -1, b""), 9),
+        (&sink, continuation(101, 2, 11, 0, b""), 10),
+        (&sink, start(100, 2, 4, START, b"AB"), 11),
+        (&sink, start(101, 1, 9, START, b"AB"), 12),
+        (&sink, continuation(101, 1, 8, 5, b"XG"), 13),
+        (&not_held, adds.clone(), 17),
+    ] {
+        let mut left = before.clone();
+        assert_eq!(left.store(&packet), number);
+        for unused in unused_fields() {
+            let other = with_unused(&packet, unused);
+            let mut sink = before.clone();
+            assert_eq!((sink.store(&other), &sink), (number, &left), "{other:02X?}");
+        }
+    }
+}
+
+#[test]
+fn the_sequence_number_stands_in_bytes_2_and_3() {
+    // The next sequence number after the opening one stands in timestamp and SSRC.
+    let unused = [0, 101, 0, 101, 0, 101, 0, 101];
+    for sequence in 0..=u16::MAX {
+        let mut sink = Sink::fresh(10);
+        assert_eq!(sink.store(&with_unused(&start(sequence, 2, 8, START, b"AB"), unused)), 0);
+        assert_eq!((sink.record.opening_sequence, sink.pointer.last), (sequence, sequence));
+        let newer = (101..=32_867).contains(&sequence);
+        let answer = opened().store(&with_unused(&continuation(sequence, 2, 8, 0, b"x"), unused));
+        assert_eq!(answer, if newer { 0 } else { 11 }, "{sequence}");
+    }
 }
 
 #[test]

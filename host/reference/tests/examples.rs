@@ -1,10 +1,10 @@
-//! The examples of section 4 of the source documents 000, 001 and 003.
+//! The examples of section 4 of the source documents 000, 001 and 003, and those for 02 §2.
 
 mod common;
 
 use common::outcome;
 use reference::cursor::{self, Picture, Pointer};
-use reference::examples::{self, MESSAGES};
+use reference::examples::{self, MESSAGES, UNUSED_FIELDS};
 use reference::limits::{self, Limits};
 use reference::message::{self, Span, Tlv};
 use reference::session::{self, Session, State};
@@ -174,6 +174,17 @@ fn cursor_packets() {
     assert_eq!(cursor::complete(record, &picture, &marks), Ok(true));
     assert_eq!(picture, examples::IMAGE);
     assert_eq!(marks, [1; examples::IMAGE_TOTAL]);
+}
+
+/// The first two bytes of a packet are judged; timestamp and SSRC are not.
+#[test]
+fn unused_fields_of_02_2() {
+    for (name, packet, number) in UNUSED_FIELDS {
+        let answer = outcome(cursor::position(Pointer::fresh(), packet));
+        assert_eq!(answer, (number.number(), 0), "{name}");
+    }
+    let pointer = cursor::position(Pointer::fresh(), &examples::FIELDS_FILLED).unwrap();
+    assert_eq!(pointer, Pointer { known: true, last: 5, x: -2, y: 10 });
 }
 
 #[test]

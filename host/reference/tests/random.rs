@@ -2,7 +2,7 @@
 
 mod common;
 
-use common::{continuation, message, position, start, tlv, Random, Start, START};
+use common::{continuation, message, position, start, tlv, with_unused, Random, Start, START};
 use reference::cursor::{self, Picture, Pointer};
 use reference::message::{read, write, Record, Span, Tlv};
 use reference::session::{on_message, Session, State};
@@ -232,11 +232,20 @@ fn any_packet_with_any_records_and_lent_bytes() {
         let marks: Vec<u8> = (0..marked).map(|_| random.pick(&[0, 0, 1, 9])).collect();
         let packet = random_packet(&mut random);
 
-        if let Err(refused) = cursor::position(pointer, &packet) {
+        // The same packet with another timestamp and SSRC (02 §2).
+        let other = with_unused(&packet, std::array::from_fn(|_| random.byte()));
+
+        let answer = cursor::position(pointer, &packet);
+        assert_eq!(cursor::position(pointer, &other), answer);
+        if let Err(refused) = answer {
             assert!([1, 2, 3, 4, 11].contains(&refused.number.number()));
         }
         let (mut stored, mut marks_after) = (picture.clone(), marks.clone());
-        match cursor::store(pointer, record, &packet, &mut stored, &mut marks_after) {
+        let answer = cursor::store(pointer, record, &packet, &mut stored, &mut marks_after);
+        let (mut stored_too, mut marks_too) = (picture.clone(), marks.clone());
+        let other = cursor::store(pointer, record, &other, &mut stored_too, &mut marks_too);
+        assert_eq!((other, &stored_too, &marks_too), (answer, &stored, &marks_after));
+        match answer {
             Ok((_, after)) => {
                 counts[0] += 1;
                 assert!(after.open);

@@ -46,12 +46,27 @@ pub fn accepted_messages() -> Vec<Vec<u8>> {
     ]
 }
 
-/// The RTP header with this sequence number.
+/// The RTP header with this sequence number, timestamp and SSRC 0.
 pub fn rtp(sequence: u16) -> Vec<u8> {
     let mut header = vec![0; 12];
     header[0] = 0x80;
     header[2..4].copy_from_slice(&sequence.to_be_bytes());
     header
+}
+
+/// The packet with these bytes for timestamp and SSRC, as far as it has them.
+pub fn with_unused(packet: &[u8], unused: [u8; 8]) -> Vec<u8> {
+    let mut packet = packet.to_vec();
+    for (byte, unused) in packet.iter_mut().skip(4).zip(unused) {
+        *byte = unused;
+    }
+    packet
+}
+
+/// Timestamps and SSRCs: those of the examples, all bits, and each bit alone.
+pub fn unused_fields() -> impl Iterator<Item = [u8; 8]> {
+    let filled = [0x11, 0x22, 0x33, 0x44, 0xAA, 0xBB, 0xCC, 0xDD];
+    [filled, [0xFF; 8]].into_iter().chain((0..64).map(|bit| (1u64 << bit).to_be_bytes()))
 }
 
 /// A packet of this type and these bytes after PacketMsgSize.
