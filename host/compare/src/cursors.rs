@@ -18,17 +18,24 @@ pub fn run(tally: &mut Tally, random: &mut Random) {
     fresh(tally, random);
     positions::distances_of_positions(tally, random);
     positions::damaged_positions(tally, random);
+    positions::any_packets(tally, random, 100_000);
     storing::distances_of_fragments(tally, random);
     storing::damaged_fragments(tally, random);
     storing::totals_and_offsets(tally, random);
     storing::conflicts_at_each_place(tally, random);
     storing::flags_of_any_byte(tally, random);
     completeness::empty_marks_at_each_place(tally, random);
-    storing::any_calls(tally, random);
+    storing::any_packets(tally, random, 400_000);
     storing::streams(tally, random);
     storing::any_order(tally, random);
     completeness::large_pictures(tally, random);
     short(tally, random);
+}
+
+/// So many packets of any kind for each call that takes packets.
+pub fn any_packets(tally: &mut Tally, random: &mut Random, times: usize) {
+    positions::any_packets(tally, random, times);
+    storing::any_packets(tally, random, times);
 }
 
 fn fresh(tally: &mut Tally, random: &mut Random) {

@@ -9,6 +9,10 @@
 //! A record is written only where it changes. So each call that changes a record in place is also
 //! lent records in an unusual form, with flags that are neither 0 nor 1: they must be left so by an
 //! accepted call that changes nothing in them, and such calls must have occurred.
+//!
+//! Timestamp and SSRC of a packet are ignored (02 §2). So packets have any there, and each call on
+//! a packet is made once more, from the same state, on the packet with others: the answer and every
+//! byte that is left must be the same, whatever the reference says of them.
 
 #![forbid(unsafe_code)]
 
@@ -18,6 +22,7 @@ mod layout;
 mod limits_values;
 mod making;
 mod messages;
+mod pairs;
 mod random;
 mod sessions;
 mod tally;
@@ -26,6 +31,7 @@ use std::fmt;
 
 use random::Random;
 use tally::Tally;
+pub use tally::{PacketCalls, PositionCall, StoreCall};
 
 /// The seed where none is named.
 pub const SEED: u64 = 7250;
@@ -47,7 +53,14 @@ impl Comparison {
         Comparison { tally }
     }
 
-    /// The number of answers compared.
+    /// Compares these calls in place of the library's, on so many packets each.
+    pub fn of_packets(packet_calls: PacketCalls, seed: u64, times: usize) -> Self {
+        let mut tally = Tally::of(packet_calls);
+        cursors::any_packets(&mut tally, &mut Random::new(seed), times);
+        Comparison { tally }
+    }
+
+    /// The number of answers compared with the reference's.
     pub fn compared(&self) -> u64 {
         self.tally.compared()
     }
@@ -60,7 +73,8 @@ impl Comparison {
 
 /// The table of answers: a line a call, a column a number; in the last column how often a record
 /// shorter than its layout was refused with 10. Then a table of the records lent in an unusual
-/// form: how often each was left alone, and how often written.
+/// form: how often each was left alone, and how often written. Last a table of the pairs of packets
+/// that differ only in timestamp and SSRC.
 impl fmt::Display for Comparison {
     fn fmt(&self, f: &mut fmt::Formatter<'_>) -> fmt::Result {
         self.tally.fmt(f)

@@ -1,5 +1,12 @@
 //! Builders of messages and packets, from the layouts of 001 section 2.2 and 003 section 2.2.
 
+use std::ops::Range;
+
+use crate::random::Random;
+
+/// Where timestamp and SSRC stand in a packet. No call looks at them (02 §2).
+const UNUSED: Range<usize> = 4..12;
+
 /// A TLV: Type, Length, Value.
 pub fn tlv(kind: u8, value: &[u8]) -> Vec<u8> {
     let mut bytes = vec![kind];
@@ -24,19 +31,44 @@ pub fn set_size(message: &mut [u8]) {
     }
 }
 
-/// A packet: the RTP header, MsgType, PacketMsgSize, then the body.
-pub fn packet(sequence: u16, kind: u8, body: &[u8]) -> Vec<u8> {
+/// Timestamp and SSRC: mostly any bytes, at times zeros or one bit alone.
+fn unused(random: &mut Random) -> [u8; UNUSED.end - UNUSED.start] {
+    match random.below(8) {
+        0 => [0; 8],
+        1 => (1u64 << random.below(64)).to_be_bytes(),
+        _ => random.array(),
+    }
+}
+
+/// The packet with another timestamp and SSRC, as far as it has them; now and then one bit of them
+/// is another. A packet that ends before them has no such other.
+pub fn with_other_unused(random: &mut Random, packet: &[u8]) -> Option<Vec<u8>> {
+    let places = UNUSED.start..packet.len().min(UNUSED.end);
+    if places.is_empty() {
+        return None;
+    }
+    let mut other = packet.to_vec();
+    other[places.clone()].copy_from_slice(&unused(random)[..places.len()]);
+    if other == packet || random.once_in(4) {
+        other.copy_from_slice(packet);
+        other[places.start + random.below(places.len())] ^= 1 << random.below(8);
+    }
+    Some(other)
+}
+
+/// A packet: the RTP header with any timestamp and SSRC, MsgType, PacketMsgSize, then the body.
+pub fn packet(random: &mut Random, sequence: u16, kind: u8, body: &[u8]) -> Vec<u8> {
     let mut bytes = vec![0x80, 0];
     bytes.extend(sequence.to_be_bytes());
-    bytes.extend([0; 8]);
+    bytes.extend(unused(random));
     bytes.push(kind);
     bytes.extend((body.len() as u16 + 3).to_be_bytes());
     bytes.extend(body);
     bytes
 }
 
-pub fn position(sequence: u16, x: i16, y: i16) -> Vec<u8> {
-    packet(sequence, 1, &[x.to_be_bytes(), y.to_be_bytes()].concat())
+pub fn position(random: &mut Random, sequence: u16, x: i16, y: i16) -> Vec<u8> {
+    packet(random, sequence, 1, &[x.to_be_bytes(), y.to_be_bytes()].concat())
 }
 
 /// What a start or a continuation says, but for its data.
@@ -54,7 +86,7 @@ pub enum Kind {
     Continuation { offset: i32 },
 }
 
-pub fn fragment(fragment: Fragment, data: &[u8]) -> Vec<u8> {
+pub fn fragment(random: &mut Random, fragment: Fragment, data: &[u8]) -> Vec<u8> {
     let mut body = Vec::with_capacity(15 + data.len());
     body.extend(fragment.total.to_be_bytes());
     body.extend(fragment.id.to_be_bytes());
@@ -73,5 +105,5 @@ pub fn fragment(fragment: Fragment, data: &[u8]) -> Vec<u8> {
         }
     };
     body.extend(data);
-    packet(fragment.sequence, kind, &body)
+    packet(random, fragment.sequence, kind, &body)
 }

@@ -3,9 +3,11 @@
 
 use std::fmt::{self, Debug, Write};
 
+use ashlarsilk::sys;
 use reference::Refused;
 
 use crate::forms::Forms;
+use crate::pairs::Pairs;
 
 /// The exported calls.
 #[derive(Clone, Copy, Debug, PartialEq, Eq)]
@@ -122,7 +124,8 @@ const RULES: [Rule; 15] = [
         numbers: &[0, 1, 2, 3, 4, 11],
         paper: "Order: fewer than 15 bytes 1; RTP 3; type 4; PacketMsgSize not 7 for a position, \
                 2; too few bytes 1; too many 2; a position packet that isn't newer than the last \
-                pointer sequence is 11. The call for positions is lent no picture.",
+                pointer sequence is 11. The call for positions is lent no picture. (RTP: by 02 §2 \
+                the first two bytes.)",
     },
     Rule {
         call: Call::CursorStore,
@@ -131,7 +134,7 @@ const RULES: [Rule; 15] = [
         paper: "Order: 17 where a picture is lent; fewer than 15 bytes 1; RTP 3; type 4; \
                 PacketMsgSize below its header 2; too few bytes 1; too many 2; 9; 10. A fragment \
                 of the opened id: other total 12; conflict 13. A fragment of another id opens a \
-                picture if newer. Otherwise 11.",
+                picture if newer. Otherwise 11. (RTP: by 02 §2 the first two bytes.)",
     },
     Rule {
         call: Call::CursorComplete,
@@ -144,6 +147,63 @@ const RULES: [Rule; 15] = [
 impl Call {
     pub fn name(self) -> &'static str {
         RULES[self as usize].name
+    }
+
+    /// The numbers that it can give.
+    pub fn numbers(self) -> &'static [u8] {
+        RULES[self as usize].numbers
+    }
+
+    /// Writes a line of a table: the name, how often each number was given, with a dot where the
+    /// call can't give it, and a last count.
+    pub fn write_line(
+        self,
+        f: &mut fmt::Formatter<'_>,
+        counts: &[u64; NUMBERS],
+        last: u64,
+    ) -> fmt::Result {
+        write!(f, "{:24}", self.name())?;
+        for (number, count) in (0..).zip(counts) {
+            if *count == 0 && !self.numbers().contains(&number) {
+                write!(f, " {:>7}", ".")?;
+            } else {
+                write!(f, " {count:>7}")?;
+            }
+        }
+        writeln!(f, " {last:>7}")
+    }
+}
+
+/// The numbers of paper 01, 0 to 18.
+pub const NUMBERS: usize = 19;
+
+/// Writes the first line of a table whose lines are written by [`Call::write_line`].
+pub fn write_heading(f: &mut fmt::Formatter<'_>, first: &str, last: &str) -> fmt::Result {
+    write!(f, "{first:24}")?;
+    for number in 0..NUMBERS {
+        write!(f, " {number:>7}")?;
+    }
+    writeln!(f, " {last:>7}")
+}
+
+/// The call for positions: lent the pointer and the packet.
+pub type PositionCall = fn(&mut [u8], &[u8]) -> sys::Answer;
+
+/// The call for starts and continuations: lent the pointer, the picture's record, the packet, the
+/// picture and its marks.
+pub type StoreCall = fn(&mut [u8], &mut [u8], &[u8], &mut [u8], &mut [u8]) -> sys::Answer;
+
+/// The exported calls that take packets. A test puts wrong ones in their place.
+#[derive(Clone, Copy)]
+pub struct PacketCalls {
+    pub position: PositionCall,
+    pub store: StoreCall,
+}
+
+impl Default for PacketCalls {
+    /// The library's.
+    fn default() -> Self {
+        PacketCalls { position: sys::cursor_position, store: sys::cursor_store }
     }
 }
 
@@ -161,18 +221,27 @@ const DESCRIBED: u64 = 3;
 
 #[derive(Default)]
 pub struct Tally {
+    /// What is compared of the calls that take packets.
+    pub packet_calls: PacketCalls,
     /// For each call, how often it gave each number.
-    counts: [[u64; 19]; RULES.len()],
+    counts: [[u64; NUMBERS]; RULES.len()],
     /// For each call, how often it refused a short record with 10.
     short: [u64; RULES.len()],
     /// What became of records lent in an unusual form.
     pub forms: Forms,
+    /// What became of packets that differ only in timestamp and SSRC.
+    pairs: Pairs,
     /// For each call, how often it differs from the reference.
     differences: [u64; RULES.len()],
     described: Vec<String>,
 }
 
 impl Tally {
+    /// A tally of these calls for packets.
+    pub fn of(packet_calls: PacketCalls) -> Self {
+        Tally { packet_calls, ..Tally::default() }
+    }
+
     /// Counts an answer.
     pub fn count(&mut self, call: Call, number: u8) {
         self.counts[call as usize][usize::from(number)] += 1;
@@ -209,13 +278,28 @@ impl Tally {
         }
     }
 
-    /// The number of answers compared.
+    /// Compares what a call gave and left for a packet, whose answer has this number, and for the
+    /// same packet with another timestamp and SSRC.
+    pub fn pair<T: PartialEq + Debug>(
+        &mut self,
+        call: Call,
+        number: u8,
+        given: T,
+        other: T,
+        input: impl FnOnce() -> String,
+    ) {
+        self.pairs.count(call, number, given == other);
+        self.expect(call, "with another timestamp and SSRC", other, given, input);
+    }
+
+    /// The number of answers compared with the reference's.
     pub fn compared(&self) -> u64 {
         self.counts.iter().flatten().chain(&self.short).sum()
     }
 
     /// What is wrong: differences, numbers that a call can give and never gave, numbers that it
-    /// can't give and gave, and the same of what it does with a record in an unusual form.
+    /// can't give and gave, and the same of what it does with a record in an unusual form and with
+    /// packets that differ only in timestamp and SSRC.
     pub fn faults(&self) -> Vec<String> {
         let mut faults = self.described.clone();
         for (rule, differences) in RULES.iter().zip(self.differences) {
@@ -238,6 +322,7 @@ impl Tally {
             }
         }
         faults.extend(self.forms.faults());
+        faults.extend(self.pairs.faults());
         faults
     }
 }
@@ -249,26 +334,16 @@ fn cut(text: &mut String, length: usize) {
     }
 }
 
-/// The table: a line a call, a column a number that any call gives. Then that of the forms.
+/// The table: a line a call, a column a number that any call gives. Then that of the forms, and
+/// that of the pairs.
 impl fmt::Display for Tally {
     fn fmt(&self, f: &mut fmt::Formatter<'_>) -> fmt::Result {
-        write!(f, "{:24}", "call")?;
-        for number in 0..19 {
-            write!(f, " {number:>7}")?;
-        }
-        writeln!(f, " {:>7}", "short")?;
+        write_heading(f, "call", "short")?;
         for (rule, (counts, short)) in RULES.iter().zip(self.counts.iter().zip(self.short)) {
-            write!(f, "{:24}", rule.name)?;
-            for (number, count) in (0..).zip(counts) {
-                if *count == 0 && !rule.numbers.contains(&number) {
-                    write!(f, " {:>7}", ".")?;
-                } else {
-                    write!(f, " {count:>7}")?;
-                }
-            }
-            writeln!(f, " {short:>7}")?;
+            rule.call.write_line(f, counts, short)?;
         }
-        self.forms.fmt(f)
+        self.forms.fmt(f)?;
+        self.pairs.fmt(f)
     }
 }
 

@@ -6,7 +6,7 @@ use ashlarsilk::sys;
 use reference::cursor::{self, Picture, Pointer};
 
 use crate::layout::{self, PICTURE, POINTER};
-use crate::making::{fragment, packet, position, Fragment, Kind};
+use crate::making::{fragment, packet, position, with_other_unused, Fragment, Kind};
 use crate::random::Random;
 use crate::tally::{hex, outcome, wrapped, Call, Tally};
 
@@ -67,8 +67,14 @@ impl Kept {
     }
 }
 
-/// Compares a position packet; the pointer is then as the reference leaves it.
-pub fn check_position(tally: &mut Tally, pointer: &mut [u8; POINTER], packet: &[u8]) {
+/// Compares a position packet, and the same with another timestamp and SSRC; the pointer is then as
+/// the reference leaves it.
+pub fn check_position(
+    tally: &mut Tally,
+    random: &mut Random,
+    pointer: &mut [u8; POINTER],
+    packet: &[u8],
+) {
     let call = Call::CursorPosition;
     let before = *pointer;
     let input = || format!("pointer {} with {}", hex(&before), hex(packet));
@@ -80,12 +86,21 @@ pub fn check_position(tally: &mut Tally, pointer: &mut [u8; POINTER], packet: &[
     tally.forms.count(call, case, &left);
     *pointer = left.bytes;
 
-    let mut record = [0xA5; POINTER + 2];
-    record[..POINTER].copy_from_slice(&before);
-    let given = sys::cursor_position(&mut record, packet);
-    tally.expect(call, "answer", (given.status, given.place), answer, input);
+    let taking = tally.packet_calls.position;
+    let take = |packet: &[u8]| {
+        let mut record = [0xA5; POINTER + 2];
+        record[..POINTER].copy_from_slice(&before);
+        (taking(&mut record, packet), record)
+    };
+    let given = take(packet);
+    let (sys::Answer { status, place }, record) = given;
+    tally.expect(call, "answer", (status, place), answer, input);
     tally.expect(call, "pointer", &record[..POINTER], &pointer[..], input);
     tally.expect(call, "bytes after the pointer", &record[POINTER..], &[0xA5; 2][..], input);
+    if let Some(other) = with_other_unused(random, packet) {
+        let input = || format!("{}, then {}", input(), hex(&other));
+        tally.pair(call, answer.0, given, take(&other), input);
+    }
 
     let mut record = library::Pointer::from_bytes(before);
     let given = library::position(&mut record, packet);
@@ -125,9 +140,9 @@ fn check_said_of_picture(tally: &mut Tally, call: Call, record: &library::Pictur
     });
 }
 
-/// Compares a start or a continuation, then the completeness question; what is kept is then as the
-/// reference leaves it. Answers with the number.
-pub fn check_store(tally: &mut Tally, kept: &mut Kept, packet: &[u8]) -> u8 {
+/// Compares a start or a continuation, the same with another timestamp and SSRC, then the
+/// completeness question; what is kept is then as the reference leaves it. Answers with the number.
+pub fn check_store(tally: &mut Tally, random: &mut Random, kept: &mut Kept, packet: &[u8]) -> u8 {
     let call = Call::CursorStore;
     let before = kept.clone();
     let input = || format!("{} with {}", before.describe(), hex(packet));
@@ -159,14 +174,25 @@ pub fn check_store(tally: &mut Tally, kept: &mut Kept, packet: &[u8]) -> u8 {
     kept.pointer = pointer.bytes;
     kept.picture = picture.bytes;
 
-    let (mut pointer, mut picture) = (lent(&before.pointer), lent(&before.picture));
-    let (mut image, mut marks) = (before.image.clone(), before.marks.clone());
-    let given = sys::cursor_store(&mut pointer, &mut picture, packet, &mut image, &mut marks);
-    tally.expect(call, "answer", (given.status, given.place), answer, input);
-    tally.expect(call, "pointer", &pointer, &lent(&kept.pointer), input);
-    tally.expect(call, "picture", &picture, &lent(&kept.picture), input);
-    tally.expect(call, "image", &image, &kept.image, input);
-    tally.expect(call, "marks", &marks, &kept.marks, input);
+    let taking = tally.packet_calls.store;
+    let take = |packet: &[u8]| {
+        let (mut pointer, mut picture) = (lent(&before.pointer), lent(&before.picture));
+        let (mut image, mut marks) = (before.image.clone(), before.marks.clone());
+        let given = taking(&mut pointer, &mut picture, packet, &mut image, &mut marks);
+        (given, pointer, picture, image, marks)
+    };
+    let given = take(packet);
+    let (sys::Answer { status, place }, pointer, picture, image, marks) = &given;
+    tally.expect(call, "answer", (*status, *place), answer, input);
+    tally.expect(call, "pointer", pointer, &lent(&kept.pointer), input);
+    tally.expect(call, "picture", picture, &lent(&kept.picture), input);
+    tally.expect(call, "image", image, &kept.image, input);
+    tally.expect(call, "marks", marks, &kept.marks, input);
+    if let Some(other) = with_other_unused(random, packet) {
+        let input = || format!("{}, then {}", input(), hex(&other));
+        tally.pair(call, answer.0, &given, &take(&other), input);
+    }
+    let (.., mut image, mut marks) = given;
 
     let mut pointer = library::Pointer::from_bytes(before.pointer);
     let mut picture = library::Picture::from_bytes(before.picture);
@@ -224,13 +250,14 @@ pub fn any_packet(random: &mut Random) -> Vec<u8> {
         total: random.pick(&[0, 3, 4, 4, 4, 5, 5, 6, 262_145, u32::MAX]),
         kind,
     };
-    let mut bytes = fragment(fields, &data);
+    let mut bytes = fragment(random, fields, &data);
     if random.once_in(10) {
-        bytes = position(sequence, 1, 2);
+        bytes = position(random, sequence, 1, 2);
     }
     if random.once_in(30) {
-        let length = random.below(24);
-        bytes = packet(sequence, random.pick(&[0, 1, 2, 3, 4, 255]), &random.bytes(length));
+        let (kind, length) = (random.pick(&[0, 1, 2, 3, 4, 255]), random.below(24));
+        let body = random.bytes(length);
+        bytes = packet(random, sequence, kind, &body);
     }
     if random.once_in(12) {
         let place = random.below(bytes.len());

@@ -61,17 +61,18 @@ pub fn large_pictures(tally: &mut Tally, random: &mut Random) {
                 _ => Kind::Continuation { offset: from as i32 },
             };
             let fields = Fragment { sequence: count as u16, id: 7, total: total as u32, kind };
-            let bytes = fragment(fields, &whole[from..to]);
-            check_store(tally, &mut kept, &bytes);
+            let bytes = fragment(random, fields, &whole[from..to]);
+            check_store(tally, random, &mut kept, &bytes);
             if count < 10 {
-                check_store(tally, &mut kept, &bytes);
+                check_store(tally, random, &mut kept, &bytes);
                 let mut other = bytes.clone();
                 *other.last_mut().expect("a byte") ^= 1;
-                check_store(tally, &mut kept, &other);
+                check_store(tally, random, &mut kept, &other);
             }
         }
         let start = Fragment { sequence: 9, id: 7, total: total as u32, kind: START };
-        check_store(tally, &mut kept, &fragment(start, &whole[..5]));
+        let bytes = fragment(random, start, &whole[..5]);
+        check_store(tally, random, &mut kept, &bytes);
         let complete = sys::cursor_complete(&kept.picture, &kept.image, &kept.marks).yes == 1;
         let same = kept.image[..total] == whole;
         let input = || format!("the picture of {total} bytes");

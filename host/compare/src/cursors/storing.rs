@@ -31,8 +31,9 @@ pub fn distances_of_fragments(tally: &mut Tally, random: &mut Random) {
                 ..Picture::fresh()
             });
             let kind = if random.flag() { START } else { Kind::Continuation { offset: 1 } };
-            let bytes = fragment(Fragment { sequence, id: 7, total: 2, kind }, &[random.byte()]);
-            check_store(tally, &mut kept, &bytes);
+            let data = [random.byte()];
+            let bytes = fragment(random, Fragment { sequence, id: 7, total: 2, kind }, &data);
+            check_store(tally, random, &mut kept, &bytes);
         }
     }
 }
@@ -75,34 +76,35 @@ fn states(random: &mut Random) -> Vec<Kept> {
 pub fn damaged_fragments(tally: &mut Tally, random: &mut Random) {
     for kind in [START, Kind::Continuation { offset: 2 }, Kind::Continuation { offset: 6 }] {
         for state in states(random) {
-            let data = if matches!(kind, Kind::Continuation { offset: 6 }) { 0 } else { 3 };
+            let length = if matches!(kind, Kind::Continuation { offset: 6 }) { 0 } else { 3 };
             let fields = Fragment { sequence: 1_000, id: 7, total: 6, kind };
-            let mut bytes = fragment(fields, &random.bytes(data));
+            let data = random.bytes(length);
+            let mut bytes = fragment(random, fields, &data);
             for length in 0..=bytes.len() {
-                check_store(tally, &mut state.clone(), &bytes[..length]);
+                check_store(tally, random, &mut state.clone(), &bytes[..length]);
                 // The size that the shorter packet has.
                 let mut shorter = bytes[..length].to_vec();
                 if length >= 15 {
                     shorter[13..15].copy_from_slice(&(length as u16 - 12).to_be_bytes());
                 }
-                check_store(tally, &mut state.clone(), &shorter);
+                check_store(tally, random, &mut state.clone(), &shorter);
             }
             for place in 0..bytes.len() {
                 let kept = bytes[place];
                 for byte in 0..=255 {
                     bytes[place] = byte;
-                    check_store(tally, &mut state.clone(), &bytes);
+                    check_store(tally, random, &mut state.clone(), &bytes);
                 }
                 bytes[place] = kept;
             }
             bytes.push(random.byte());
-            check_store(tally, &mut state.clone(), &bytes);
+            check_store(tally, random, &mut state.clone(), &bytes);
         }
-        let mut bytes = fragment(Fragment { sequence: 1_000, id: 7, total: 6, kind }, &[]);
+        let mut bytes = fragment(random, Fragment { sequence: 1_000, id: 7, total: 6, kind }, &[]);
         let state = Kept::fresh(random, 8, 8);
         for size in 0..=u16::MAX {
             bytes[13..15].copy_from_slice(&size.to_be_bytes());
-            check_store(tally, &mut state.clone(), &bytes);
+            check_store(tally, random, &mut state.clone(), &bytes);
         }
     }
 }
@@ -127,8 +129,9 @@ pub fn totals_and_offsets(tally: &mut Tally, random: &mut Random) {
                         });
                         for kind in [Kind::Continuation { offset }, START] {
                             let fields = Fragment { sequence: 1, id: 7, total, kind };
-                            let bytes = fragment(fields, &random.bytes(length));
-                            check_store(tally, &mut kept.clone(), &bytes);
+                            let data = random.bytes(length);
+                            let bytes = fragment(random, fields, &data);
+                            check_store(tally, random, &mut kept.clone(), &bytes);
                         }
                     }
                 }
@@ -141,12 +144,13 @@ pub fn totals_and_offsets(tally: &mut Tally, random: &mut Random) {
             for (image, marks) in [(262_150, 262_150), (262_144, 262_144), (262_143, 262_144)] {
                 let mut kept = Kept::fresh(random, image, marks);
                 let kind = Kind::Continuation { offset };
-                let bytes = fragment(Fragment { sequence: 1, id: 7, total, kind }, &[1, 2, 3]);
-                check_store(tally, &mut kept, &bytes);
+                let fields = Fragment { sequence: 1, id: 7, total, kind };
+                let bytes = fragment(random, fields, &[1, 2, 3]);
+                check_store(tally, random, &mut kept, &bytes);
                 kept.picture[3..7].copy_from_slice(&total.to_le_bytes());
                 kept.picture[0] = 1;
                 check_complete(tally, &kept);
-                check_store(tally, &mut kept, &bytes);
+                check_store(tally, random, &mut kept, &bytes);
             }
         }
     }
@@ -178,14 +182,16 @@ pub fn conflicts_at_each_place(tally: &mut Tally, random: &mut Random) {
             let kind = Kind::Continuation { offset: offset as i32 };
             let fields = Fragment { sequence: 1, id: 7, total: total as u32, kind };
             let same = kept.image[offset..offset + length].to_vec();
-            check_store(tally, &mut kept.clone(), &fragment(fields, &same));
+            let bytes = fragment(random, fields, &same);
+            check_store(tally, random, &mut kept.clone(), &bytes);
             for place in 0..length {
                 let mut data = same.clone();
                 data[place] ^= 1 << random.below(8);
                 for mark in [0, 1, random.byte()] {
                     let mut kept = kept.clone();
                     kept.marks[offset + place] = mark;
-                    check_store(tally, &mut kept, &fragment(fields, &data));
+                    let bytes = fragment(random, fields, &data);
+                    check_store(tally, random, &mut kept, &bytes);
                 }
             }
         }
@@ -216,10 +222,11 @@ pub fn flags_of_any_byte(tally: &mut Tally, random: &mut Random) {
                     for length in [0, 4] {
                         // What stands there, so that no place conflicts.
                         let data = &kept.image[place..place + length];
-                        let bytes = fragment(Fragment { sequence, id, total: 6, kind }, data);
+                        let fields = Fragment { sequence, id, total: 6, kind };
+                        let bytes = fragment(random, fields, data);
                         let mut kept = kept.clone();
-                        check_store(tally, &mut kept, &bytes);
-                        check_store(tally, &mut kept, &bytes);
+                        check_store(tally, random, &mut kept, &bytes);
+                        check_store(tally, random, &mut kept, &bytes);
                     }
                 }
             }
@@ -227,9 +234,9 @@ pub fn flags_of_any_byte(tally: &mut Tally, random: &mut Random) {
     }
 }
 
-/// Any packets with records in any state, pictures and marks of any length.
-pub fn any_calls(tally: &mut Tally, random: &mut Random) {
-    for _ in 0..400_000 {
+/// So many packets of any kind, with records in any state, pictures and marks of any length.
+pub fn any_packets(tally: &mut Tally, random: &mut Random, times: usize) {
+    for _ in 0..times {
         let mut pointer: [u8; POINTER] = random.array();
         pointer[0] = random.pick(&[0, 1, 1, 2, 7, 255]);
         pointer[1..3].copy_from_slice(&random.pick(&TURNS).to_le_bytes());
@@ -252,7 +259,8 @@ pub fn any_calls(tally: &mut Tally, random: &mut Random) {
             image: (0..image).map(|_| random.below(2) as u8).collect(),
             marks: (0..marks).map(|_| random.pick(&[0, 0, 1, 9])).collect(),
         };
-        check_store(tally, &mut kept, &any_packet(random));
+        let bytes = any_packet(random);
+        check_store(tally, random, &mut kept, &bytes);
     }
 }
 
@@ -281,15 +289,16 @@ pub fn streams(tally: &mut Tally, random: &mut Random) {
             let data: Vec<u8> = (at..at + length)
                 .map(|place| if random.once_in(60) { 1 } else { (place as u8) << 3 ^ id as u8 })
                 .collect();
-            let mut bytes = fragment(Fragment { sequence: late, id, total, kind }, &data);
+            let mut bytes = fragment(random, Fragment { sequence: late, id, total, kind }, &data);
             if random.once_in(10) {
                 let place = random.below(bytes.len());
                 bytes[place] = random.byte();
             }
-            check_store(tally, &mut kept, &bytes);
+            check_store(tally, random, &mut kept, &bytes);
             kept.other_yes(random);
             if random.once_in(4) {
-                check_position(tally, &mut kept.pointer, &position(late, 3, 4));
+                let bytes = position(random, late, 3, 4);
+                check_position(tally, random, &mut kept.pointer, &bytes);
             }
         }
     }
@@ -311,15 +320,17 @@ pub fn any_order(tally: &mut Tally, random: &mut Random) {
                 };
                 let sequence = random.number() as u16;
                 let fields = Fragment { sequence, id: 7, total: total as u32, kind };
-                fragment(fields, &whole[from..to])
+                fragment(random, fields, &whole[from..to])
             })
             .collect();
         let opener = Kind::Continuation { offset: 0 };
         let opener = Fragment { sequence: 1, id: 7, total: total as u32, kind: opener };
         let mut opened = Kept::with_room(random, total, 2);
-        check_store(tally, &mut opened, &fragment(opener, &[]));
+        let bytes = fragment(random, opener, &[]);
+        check_store(tally, random, &mut opened, &bytes);
         if random.once_in(4) {
-            check_store(tally, &mut opened, &fragment(Fragment { kind: START, ..opener }, &[]));
+            let bytes = fragment(random, Fragment { kind: START, ..opener }, &[]);
+            check_store(tally, random, &mut opened, &bytes);
         }
         opened.other_yes(random);
 
@@ -332,9 +343,10 @@ pub fn any_order(tally: &mut Tally, random: &mut Random) {
             for index in order {
                 if random.once_in(3) {
                     let other = Fragment { total: total as u32 + 1, ..opener };
-                    check_store(tally, &mut kept, &fragment(other, &[]));
+                    let bytes = fragment(random, other, &[]);
+                    check_store(tally, random, &mut kept, &bytes);
                 }
-                let number = check_store(tally, &mut kept, &fragments[index]);
+                let number = check_store(tally, random, &mut kept, &fragments[index]);
                 let input = || hex(&fragments[index]);
                 tally.expect(Call::CursorStore, "a fragment in any order", number, 0, input);
             }
