@@ -1,11 +1,13 @@
-//! What `run_cursor` must print: positions, offsets, the packets of 003 section 4, orders and
-//! repeats of a small picture, its refusals, and sequence numbers that wrap.
+//! What `run_cursor` must print: positions, offsets, the packets of 003 section 4, the same with
+//! timestamp and SSRC filled, orders and repeats of a small picture, its refusals, and sequence
+//! numbers that wrap.
 
 use std::fmt::Write;
 
 use reference::cursor::{self, Picture, Pointer};
+use reference::examples::FIELDS_FILLED;
 
-use crate::packets::{continuation, position, start, Start};
+use crate::packets::{continuation, position, start, with_unused, Start};
 
 fn pointer_text(p: Pointer) -> String {
     format!(" pointer {}", pointer_numbers(p))
@@ -84,8 +86,8 @@ fn positions(text: &mut String) {
     let p9 = position(5, -2, 10);
     let mut wrong_size = [&p9[..], &[0]].concat();
     wrong_size[14] = 8;
-    let mut wrong_ssrc = p9.clone();
-    wrong_ssrc[11] = 1;
+    let with_ssrc_1 = with_unused(p9.clone(), &[0, 0, 0, 0, 0, 0, 0, 1]);
+    let with_first = |first: [u8; 2]| [&first, &p9[2..]].concat();
     let packets = [
         p9.clone(),
         p9.clone(),
@@ -98,7 +100,9 @@ fn positions(text: &mut String) {
         p9[..14].to_vec(),
         p9[..18].to_vec(),
         [&p9[..], &[0]].concat(),
-        wrong_ssrc,
+        with_ssrc_1,
+        with_first([0x81, 0]),
+        with_first([0x80, 1]),
     ];
     let mut pointer = Pointer::fresh();
     for packet in packets {
@@ -121,12 +125,15 @@ fn offsets(text: &mut String) {
     }
 }
 
-/// 003 section 4: a start with the first half of 512 bytes, a continuation with the second.
-fn shape(text: &mut String) {
+/// 003 section 4: a start with the first half of 512 bytes, a continuation with the second, with
+/// this timestamp and SSRC.
+fn shape(text: &mut String, unused: &[u8]) {
     let mut receiver = Receiver::new(513, 256, text);
-    receiver.store(&start(0, 512, 0x1234, Start(12, 10, 3, 18, 15), &[65; 256]));
+    let first = start(0, 512, 0x1234, Start(12, 10, 3, 18, 15), &[65; 256]);
+    receiver.store(&with_unused(first, unused));
     receiver.complete();
-    receiver.store(&continuation(1, 512, 0x1234, 256, &[66; 256]));
+    let second = continuation(1, 512, 0x1234, 256, &[66; 256]);
+    receiver.store(&with_unused(second, unused));
     receiver.complete();
 }
 
@@ -166,7 +173,8 @@ pub fn lines() -> String {
     let mut text = String::new();
     positions(&mut text);
     offsets(&mut text);
-    shape(&mut text);
+    shape(&mut text, &[0; 8]);
+    shape(&mut text, &FIELDS_FILLED[4..12]);
     orders(&mut text);
     wraps(&mut text);
     text

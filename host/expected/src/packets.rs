@@ -1,6 +1,6 @@
 //! Cursor packets, made from their fields (003 sections 2.2 to 2.2.3).
 
-/// A packet: RTP header, MsgType, PacketMsgSize and what follows them.
+/// A packet: RTP header with timestamp and SSRC 0, MsgType, PacketMsgSize and what follows them.
 fn packet(sequence: u16, kind: u8, fields: &[&[u8]]) -> Vec<u8> {
     let body = fields.concat();
     let size = body.len() as u16 + 3;
@@ -11,6 +11,12 @@ fn packet(sequence: u16, kind: u8, fields: &[&[u8]]) -> Vec<u8> {
     bytes.extend(size.to_be_bytes());
     bytes.extend(body);
     bytes
+}
+
+/// The packet with these eight bytes for timestamp and SSRC, as far as it has them.
+pub fn with_unused(mut packet: Vec<u8>, unused: &[u8]) -> Vec<u8> {
+    packet.iter_mut().skip(4).zip(unused).for_each(|(byte, unused)| *byte = *unused);
+    packet
 }
 
 pub fn position(sequence: u16, x: i16, y: i16) -> Vec<u8> {

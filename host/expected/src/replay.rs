@@ -2,12 +2,13 @@
 //!
 //! The stream has pictures under a few ids, their fragments in any order and repeated, sequence
 //! numbers that wrap, conflicts, damaged and cut packets, positions and completeness questions.
+//! Some packets have timestamp and SSRC filled, which changes no line (02 §2).
 
 use std::fmt::Write;
 
 use reference::cursor::{self, Picture, Pointer};
 
-use crate::packets::{continuation, position, start, Start};
+use crate::packets::{continuation, position, start, with_unused, Start};
 
 const CALLS: usize = 8192;
 /// A frame: the call, the packet's length, the packet and zeros.
@@ -97,7 +98,7 @@ impl Stream {
     }
 
     /// One call: 1 a position, 2 a start or a continuation, 3 the completeness question.
-    fn call(&mut self) -> (u8, Vec<u8>) {
+    fn call(&mut self) -> Call {
         if self.random.once_in(40) {
             self.id = self.random.below(10) as u16;
         }
@@ -120,9 +121,24 @@ impl Stream {
     }
 }
 
-fn calls() -> Vec<(u8, Vec<u8>)> {
+/// A call with its packet.
+type Call = (u8, Vec<u8>);
+
+/// The calls, timestamp and SSRC 0 but where a packet is damaged there.
+fn calls_unfilled() -> Vec<Call> {
     let mut stream = Stream { random: Generator(20_261_115), sequence: 64_000, id: 1 };
     (0..CALLS).map(|_| stream.call()).collect()
+}
+
+/// The calls, with timestamp and SSRC filled in one packet of three. The bytes have a generator of
+/// their own, so that all else is the same.
+fn calls() -> Vec<Call> {
+    let mut random = Generator(2);
+    let mut fill = |packet| match random.once_in(3) {
+        true => with_unused(packet, &[0; 8].map(|_: u8| random.below(256) as u8)),
+        false => packet,
+    };
+    calls_unfilled().into_iter().map(|(kind, packet)| (kind, fill(packet))).collect()
 }
 
 /// The file that `replay` reads.
@@ -158,12 +174,16 @@ fn sum(pointer: Pointer, record: Picture, image: &[u8], marks: &[u8]) -> u64 {
 }
 
 pub fn lines() -> String {
+    lines_of(&calls())
+}
+
+fn lines_of(calls: &[Call]) -> String {
     let mut text = String::new();
     let mut pointer = Pointer::fresh();
     let mut record = Picture::fresh();
     let mut image = [46; PLACES];
     let mut marks = [7; PLACES];
-    for (k, (kind, packet)) in calls().iter().enumerate() {
+    for (k, (kind, packet)) in calls.iter().enumerate() {
         let answer = match kind {
             1 => cursor::position(pointer, packet).map(|moved| {
                 pointer = moved;
@@ -181,4 +201,33 @@ pub fn lines() -> String {
         }
     }
     text
+}
+
+#[cfg(test)]
+mod tests {
+    use super::*;
+
+    /// 02 §2: packets that differ only in timestamp and SSRC give the same answers and state.
+    #[test]
+    fn filled_packets_change_no_line() {
+        assert_eq!(lines(), lines_of(&calls_unfilled()));
+    }
+
+    /// Each call takes many filled packets, some of them cut within timestamp and SSRC; and nothing
+    /// else of them is filled.
+    #[test]
+    fn packets_are_filled_for_each_call() {
+        for kind in [1, 2] {
+            let (mut filled, mut cut) = (0, 0);
+            for (call, before) in calls().into_iter().zip(calls_unfilled()) {
+                if call.0 == kind && call != before {
+                    filled += 1;
+                    cut += u32::from(call.1.len() < 12);
+                    let zeros = |packet| with_unused(packet, &[0; 8]);
+                    assert_eq!(zeros(call.1), zeros(before.1));
+                }
+            }
+            assert!(filled > 300 && cut > 0, "call {kind}: {filled} filled, {cut} cut");
+        }
+    }
 }

@@ -1,9 +1,9 @@
 //! What `vectors` must print: the messages of section 4 of 000 and 001 with P1 to P6 of 01, then
-//! the limits values and the cursor packets of 003 section 4.
+//! the limits values and the cursor packets of 003 section 4, and the packets for 02 §2.
 
 use reference::cursor::{self, Picture, Pointer};
 use reference::limits::{self, Limits};
-use reference::{examples, message};
+use reference::{examples, message, Refused};
 
 /// A of 01, "Proved table of small examples", with the Size given.
 fn source_ready(size: u8) -> Vec<u8> {
@@ -90,15 +90,17 @@ fn limits_values() -> String {
     .concat()
 }
 
+fn position_line(name: &str, answer: Result<Pointer, Refused>) -> String {
+    match answer {
+        Ok(Pointer { x, y, .. }) => format!("{name} accepted x {x} y {y}\n"),
+        Err(refused) => format!("{name} refused {}\n", refused.number as u8),
+    }
+}
+
 fn packets() -> String {
-    let mut pointer = Pointer::fresh();
-    let mut text = match cursor::position(pointer, &examples::POSITION) {
-        Ok(moved) => {
-            pointer = moved;
-            format!("003-4-position accepted x {} y {}\n", moved.x, moved.y)
-        }
-        Err(refused) => format!("003-4-position refused {}\n", refused.number as u8),
-    };
+    let answer = cursor::position(Pointer::fresh(), &examples::POSITION);
+    let mut text = position_line("003-4-position", answer);
+    let mut pointer = answer.unwrap_or(Pointer::fresh());
     let mut record = Picture::fresh();
     let mut image = [0; examples::IMAGE_TOTAL];
     let mut marks = [0; examples::IMAGE_TOTAL];
@@ -127,6 +129,15 @@ fn packets() -> String {
     text
 }
 
+/// Each on a fresh pointer.
+fn unused_fields() -> String {
+    examples::UNUSED_FIELDS
+        .map(|(name, packet, _)| {
+            position_line(&format!("02-2-{name}"), cursor::position(Pointer::fresh(), packet))
+        })
+        .concat()
+}
+
 pub fn lines() -> String {
-    messages() + &limits_values() + &packets()
+    messages() + &limits_values() + &packets() + &unused_fields()
 }
