@@ -22,8 +22,8 @@ pub enum Damage {
     PositionOfSize8,
     /// The first byte of the RTP header is not 80 hex.
     FirstByte81,
-    /// The RTP timestamp is not 0.
-    Timestamp1,
+    /// The second byte of the RTP header is not 0.
+    SecondByte1,
     /// MsgType is none of the three.
     Type4,
     /// The offset is negative.
@@ -49,7 +49,7 @@ impl Damage {
         Damage::SizeBelowHeader,
         Damage::PositionOfSize8,
         Damage::FirstByte81,
-        Damage::Timestamp1,
+        Damage::SecondByte1,
         Damage::Type4,
         Damage::OffsetMinus1,
         Damage::BeyondTotal,
@@ -76,7 +76,7 @@ impl Damage {
                 packet.push(0);
             }
             Damage::FirstByte81 => packet[0] = 0x81,
-            Damage::Timestamp1 => packet[7] = 1,
+            Damage::SecondByte1 => packet[1] = 1,
             Damage::Type4 => packet[RTP] = 4,
             Damage::OffsetMinus1 => {
                 packet = packets::continuation(sequence, total, id, -1, data);
@@ -113,7 +113,7 @@ impl fmt::Display for Damage {
             Damage::SizeBelowHeader => "a continuation of size 12",
             Damage::PositionOfSize8 => "a position of size 8",
             Damage::FirstByte81 => "the first byte is 81 hex",
-            Damage::Timestamp1 => "the timestamp is 1",
+            Damage::SecondByte1 => "the second byte is 1",
             Damage::Type4 => "the type is 4",
             Damage::OffsetMinus1 => "the offset is -1",
             Damage::BeyondTotal => "the data go beyond the total",

@@ -1,5 +1,10 @@
 //! Writes cursor packets: an RTP header, then the message of MS-WDHCE, section 2.2. A sender's half
 //! of the cursor stream is not part of the library, so the sample has its own.
+//!
+//! Timestamp and SSRC are filled freely, as two laptop models do, and a receiver ignores them
+//! (02 §2).
+
+use crate::random::Random;
 
 /// The number of bytes of the RTP header.
 pub const RTP: usize = 12;
@@ -23,10 +28,18 @@ impl Picture {
     }
 }
 
+/// Timestamp and SSRC, which go by the sequence number.
+fn unused(sequence: u16) -> [u8; 8] {
+    let mut random = Random::with_seed(sequence.into());
+    std::array::from_fn(|_| random.below(256) as u8)
+}
+
 /// A packet of this MsgType, its PacketMsgSize as it must be.
 fn packet(sequence: u16, kind: u8, parts: &[&[u8]]) -> Vec<u8> {
-    let [s1, s0] = sequence.to_be_bytes();
-    let mut packet = vec![0x80, 0, s1, s0, 0, 0, 0, 0, 0, 0, 0, 0, kind];
+    let mut packet = vec![0x80, 0];
+    packet.extend(sequence.to_be_bytes());
+    packet.extend(unused(sequence));
+    packet.push(kind);
     let size = 3 + parts.iter().map(|part| part.len()).sum::<usize>();
     packet.extend(u16::try_from(size).expect("a packet's size has two bytes").to_be_bytes());
     parts.iter().for_each(|part| packet.extend_from_slice(part));
@@ -74,12 +87,26 @@ pub fn kind(packet: &[u8]) -> Option<u8> {
 mod tests {
     use super::*;
 
-    /// Paper 01, P9.
+    /// Paper 01, P9, but for timestamp and SSRC.
     #[test]
     fn the_position_of_the_paper() {
-        let expected = [0x80, 0, 0, 5, 0, 0, 0, 0, 0, 0, 0, 0, 1, 0, 7, 0xFF, 0xFE, 0, 10];
-        assert_eq!(position(5, (-2, 10)), expected);
-        assert_eq!((sequence(&expected), kind(&expected)), (Some(5), Some(1)));
+        let packet = position(5, (-2, 10));
+        assert_eq!(packet[..4], [0x80, 0, 0, 5]);
+        assert_eq!(packet[12..], [1, 0, 7, 0xFF, 0xFE, 0, 10]);
+        assert_eq!((sequence(&packet), kind(&packet)), (Some(5), Some(1)));
+    }
+
+    /// 02 §2: neither is 0 in any packet, and both differ from packet to packet.
+    #[test]
+    fn timestamp_and_ssrc_are_filled() {
+        let mut last = [0; 8];
+        for sequence in 0..=u16::MAX {
+            let packet = position(sequence, (0, 0));
+            let (timestamp, ssrc) = (&packet[4..8], &packet[8..12]);
+            assert!(timestamp != [0; 4] && ssrc != [0; 4], "{sequence}");
+            assert!(*timestamp != last[..4] && *ssrc != last[4..], "{sequence}");
+            last.copy_from_slice(&packet[4..12]);
+        }
     }
 
     /// Header 18 for a start, 13 for a continuation.
@@ -88,7 +115,7 @@ mod tests {
         let bytes = b"abcd".to_vec();
         let picture = Picture { id: 9, image_type: 3, hot_spot: (5, 6), bytes };
         let start = start(0x0102, &picture, (-2, 10), b"ab");
-        assert_eq!(start[..12], [0x80, 0, 1, 2, 0, 0, 0, 0, 0, 0, 0, 0]);
+        assert_eq!(start[..4], [0x80, 0, 1, 2]);
         assert_eq!(start[12..15], [2, 0, 20]);
         assert_eq!(start[15..30], [0, 0, 0, 4, 0, 9, 0xFF, 0xFE, 0, 10, 3, 0, 5, 0, 6]);
         assert_eq!(start[30..], *b"ab");

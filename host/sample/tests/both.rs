@@ -1,5 +1,5 @@
 //! Both programs together: the session projects and closes, the picture completes, and damaged
-//! input changes nothing. Every expected number is written by hand from paper 01.
+//! input changes nothing. Every expected number is written by hand from paper 01 and 02 §2.
 
 mod programs;
 
@@ -39,9 +39,10 @@ const CURSOR_NUMBERS: [(&str, u8); 24] = [
     ("damaged: a continuation of size 12", 2),
     ("damaged: a position of size 8", 2),
     ("damaged: one byte too many", 2),
-    // "first byte 80 hex"; "timestamp 0"
+    // "first byte 80 hex, second 0"; 02 §2: "the first two are judged as before". Timestamp and
+    // SSRC are filled in every packet of the stream, and "those eight bytes are ignored".
     ("damaged: the first byte is 81 hex", 3),
-    ("damaged: the timestamp is 1", 3),
+    ("damaged: the second byte is 1", 3),
     // "a packet type not taken by that call"
     ("damaged: the type is 4", 4),
     // "negative offset, or offset plus data beyond the total"
