@@ -18,11 +18,12 @@ const PICTURES: [usize; 5] = [1024, 4096, 16_384, 65_536, LARGEST_PICTURE];
 /// What a fragment has room for in a packet of 1,500 bytes.
 const USUAL: usize = 1400;
 
-/// The header of a cursor packet with PacketMsgSize `size`.
+/// The header of a cursor packet with PacketMsgSize `size`. Timestamp and SSRC are filled, and both
+/// programs have to ignore them (02 §2).
 fn header(sequence: u16, kind: u8, size: usize) -> Vec<u8> {
     let mut bytes = vec![0x80, 0];
     bytes.extend(sequence.to_be_bytes());
-    bytes.extend([0; 8]);
+    bytes.extend([0x11, 0x22, 0x33, 0x44, 0xAA, 0xBB, 0xCC, 0xDD]);
     bytes.push(kind);
     bytes.extend((size as u16).to_be_bytes());
     bytes
@@ -221,7 +222,8 @@ pub fn positions(table: &mut Table) {
         },
     );
     let again = &packets[0];
-    let _ = ours::position(&mut pointer, again);
+    pointer = ours::Pointer::fresh();
+    ours::position(&mut pointer, again).expect("the packet is accepted");
     other = theirs::position(theirs::Pointer::fresh(), again).expect("the packet is accepted");
     table.row(
         "a position that is not newer",
