@@ -1,5 +1,6 @@
 //! The cursor stream: the pointer's position, and a cursor picture put together from fragments
-//! that come in any order and any number of times.
+//! that come in any order and any number of times. Of a packet's RTP header timestamp and SSRC are
+//! not looked at (02 §2).
 
 use std::fmt;
 

@@ -10,7 +10,7 @@ pub enum Refusal {
     Truncated = 1,
     /// 2: declared size below the header, not 7 for a position, or bytes left over after it.
     WrongSize = 2,
-    /// 3: Version not 1, or an RTP field with a wrong value.
+    /// 3: Version not 1, or a packet whose first byte is not 80 hex or whose second is not 0.
     WrongHeader = 3,
     /// 4: unknown command, message type or session event, or a packet type not taken by the call.
     UnknownKind = 4,
