@@ -1,15 +1,18 @@
 -- The premises of the theorems are met, by small calls over lent records. Those that end in `refl` are computed here; the proofs of the others
 -- stand in proofs/Laws/Examples.antt. Assumes nothing.
+use Prim.Native.Nat.{ℕ, _≤_}
 use mathlib.Core.Path.{_≡_, refl}
 use mathlib.Core.Bool.{true}
-use mathlib.Core.List.{[], _∷_}
+use mathlib.Core.List.{List, [], _∷_, _++_}
+use mathlib.Core.Logic.{inl, inr}
 use native.Mathlib.Omega.{arith}
+use lib.ListN.{length}
 use Rattle.wire.specs.Below.{allBelow}
 use Rattle.wire.specs.Checks.{firstOf}
 use Rattle.wire.specs.LittleEndian.{numberAt}
 use Rattle.wire.specs.Number.{numberIn, bytesIn, Bytes}
 use Rattle.wire.specs.Sequence.{isNewer, distance}
-use Rattle.wire.specs.Signed.{signed}
+use Rattle.wire.specs.Signed.{signed, unsigned}
 use Rattle.wire.specs.Laid.{laid}
 use Rattle.wire.specs.Splice.{splice}
 use Rattle.wire.proofs.Laws.Below.{bytes-computed}
@@ -18,14 +21,16 @@ use Rattle.scan.specs.Conflict.{conflictIn}
 use Rattle.scan.specs.Empty.{firstEmpty}
 use Rattle.scan.specs.Order.{lesser}
 use Rattle.cursor_packet.specs.Frame.{frameChecks}
-use Rattle.cursor_packet.specs.Rtp.{rtpHolds, unusedZero}
+use Rattle.cursor_packet.specs.Rtp.{rtpHolds}
 use Rattle.cursor_packet.specs.Position.{positionChecks, positionAt}
+use Rattle.cursor_packet.specs.Unused.{DifferOnlyThere, WrongHeader}
+use Rattle.cursor_packet.specs.Examples.{filled, beginning}
 use Rattle.cursor_fragment.specs.Fragment.{takesType, headerLength, imageData, offsetBits, placeOf, outside, fragmentFrame, fragmentChecks, fragmentAs}
 use Rattle.cursor_fragment.specs.Start.{startOf, noStart, startIn, sameStart}
 use Rattle.cursor_pointer.specs.Pointer.{movedTo, positionStatus, positioned}
 use Rattle.cursor_picture.specs.Picture.{samePicture, hasRoom, held}
 use Rattle.cursor_picture.specs.Completeness.{firstEmptyOf, completeness}
-use Rattle.cursor_layout.specs.PointerLayout.{pointerOf}
+use Rattle.cursor_layout.specs.PointerLayout.{pointerLength, pointerBytes, pointerOf}
 use Rattle.cursor_layout.specs.PictureLayout.{startBytes, pictureBytes, pictureOf, pictureLeft, PictureFits}
 use Rattle.cursor_store.specs.Judging.{ofOpened, startDiffers, bytesDiffer, openedRules, otherRules, judging}
 use Rattle.cursor_store.specs.Assembling.{storeChecks, storeStatus, openedFor, clearedFor, imageAfter, marksAfter, withStart, pictureAfter, assembledAs, assembled}
@@ -48,7 +53,7 @@ lent = record {
 
 -- PositionRefusalKeeps: a packet with the pointer's own sequence number is 11
 pub position-refused : cursorPosition (1 ∷ 5 ∷ 0 ∷ 0 ∷ 0 ∷ 0 ∷ 0 ∷ []) position9 ≡ afterPosition (record { status = 11; place = 0 }) (1 ∷ 5 ∷ 0 ∷ 0 ∷ 0 ∷ 0 ∷ 0 ∷ [])
-unfolding cursorPosition positioned positionStatus movedTo isNewer distance positionChecks positionAt firstOf frameChecks rtpHolds unusedZero numberIn numberAt signed pointerOf
+unfolding cursorPosition positioned positionStatus movedTo isNewer distance positionChecks positionAt firstOf frameChecks rtpHolds numberIn numberAt signed pointerOf
 position-refused = refl
 
 -- StoreRefusalKeeps: a packet of no bytes is 1
@@ -60,8 +65,43 @@ store-refused = refl
 pub records-stay
     : called lent (last 32)
     ≡ afterStore (record { status = 0; place = 0 }) (lent .pointer) (lent .picture) (lent .image) (0 ∷ 0 ∷ 0 ∷ 1 ∷ 7 ∷ [])
-unfolding cursorStore recordsWhole pointerLeft pictureLeft samePicture sameStart moves stored assembled assembledAs storeStatus storeChecks held hasRoom judging openedRules otherRules ofOpened startDiffers bytesDiffer conflictIn someBelow lesser isNewer distance openedFor clearedFor imageAfter marksAfter withStart pictureAfter pointerAfter splice fragmentChecks fragmentFrame firstOf frameChecks rtpHolds unusedZero numberIn numberAt signed takesType headerLength imageData startOf noStart startIn offsetBits placeOf outside fragmentAs pictureOf pointerOf
+unfolding cursorStore recordsWhole pointerLeft pictureLeft samePicture sameStart moves stored assembled assembledAs storeStatus storeChecks held hasRoom judging openedRules otherRules ofOpened startDiffers bytesDiffer conflictIn someBelow lesser isNewer distance openedFor clearedFor imageAfter marksAfter withStart pictureAfter pointerAfter splice fragmentChecks fragmentFrame firstOf frameChecks rtpHolds numberIn numberAt signed takesType headerLength imageData startOf noStart startIn offsetBits placeOf outside fragmentAs pictureOf pointerOf
 records-stay = refl
+
+-- 02 §2: timestamp and SSRC filled, and wrong first bytes.
+
+-- PositionUnusedIgnored: P9, and P9 so filled, which is taken as P9 is
+pub position-filled
+    : DifferOnlyThere position9 (beginning 0x80 0)
+    × (cursorPosition (1 ∷ 4 ∷ 0 ∷ 0 ∷ 0 ∷ 0 ∷ 0 ∷ []) (beginning 0x80 0)
+    ≡ afterPosition (record { status = 0; place = 0 }) (1 ∷ 5 ∷ 0 ∷ 0xfe ∷ 0xff ∷ 0x0a ∷ 0 ∷ []))
+unfolding cursorPosition positioned positionStatus movedTo isNewer distance positionChecks positionAt firstOf frameChecks rtpHolds numberIn numberAt bytesIn laid splice signed unsigned pointerOf pointerBytes
+position-filled = (record { as-long = refl; before = refl; after = refl }, refl)
+
+abbrev pub lastFilled : List ℕ
+lastFilled = filled 32 ++ (3 ∷ 0 ∷ 14 ∷ 0 ∷ 0 ∷ 0 ∷ 4 ∷ 0 ∷ 9 ∷ 0 ∷ 0 ∷ 0 ∷ 3 ∷ 68 ∷ [])
+
+-- StoreUnusedIgnored: the same continuation, and the same so filled
+pub store-filled
+    : DifferOnlyThere (last 32) lastFilled
+    × (called lent lastFilled ≡ afterStore (record { status = 0; place = 0 }) (lent .pointer) (lent .picture) (lent .image) (0 ∷ 0 ∷ 0 ∷ 1 ∷ 7 ∷ []))
+unfolding cursorStore recordsWhole pointerLeft pictureLeft samePicture sameStart moves stored assembled assembledAs storeStatus storeChecks held hasRoom judging openedRules otherRules ofOpened startDiffers bytesDiffer conflictIn someBelow lesser isNewer distance openedFor clearedFor imageAfter marksAfter withStart pictureAfter pointerAfter splice fragmentChecks fragmentFrame firstOf frameChecks rtpHolds numberIn numberAt signed takesType headerLength imageData startOf noStart startIn offsetBits placeOf outside fragmentAs pictureOf pointerOf
+store-filled = (record { as-long = refl; before = refl; after = refl }, refl)
+
+-- PositionThreeExactly: the first byte is 81 hex
+pub position-three
+    : (pointerLength ≤ length (lent .pointer)) × WrongHeader (beginning 0x81 0)
+    × (cursorPosition (lent .pointer) (beginning 0x81 0) ≡ afterPosition (record { status = 3; place = 0 }) (lent .pointer))
+unfolding cursorPosition positioned positionStatus movedTo isNewer distance positionChecks positionAt firstOf frameChecks rtpHolds numberIn numberAt signed pointerOf
+position-three = (omega arith, (omega arith, inl (λ e. omega arith)), refl)
+
+-- StoreThreeExactly: the second byte is 1
+pub store-three
+    : (recordsWhole (length (lent .pointer)) (length (lent .picture)) ≡ true)
+    × (held (pictureOf (lent .picture)) (length (lent .image)) (length (lent .marks)) ≡ true) × WrongHeader (beginning 0x80 1)
+    × (called lent (beginning 0x80 1) ≡ afterStore (record { status = 3; place = 0 }) (lent .pointer) (lent .picture) (lent .image) (lent .marks))
+unfolding cursorStore recordsWhole stored assembled assembledAs storeStatus storeChecks held hasRoom judging openedRules otherRules ofOpened fragmentChecks fragmentFrame firstOf frameChecks rtpHolds takesType headerLength imageData offsetBits placeOf outside fragmentAs numberIn numberAt signed pictureOf pointerOf
+store-three = (refl, refl, (omega arith, inr (λ e. omega arith)), refl)
 
 -- StoredFits: the record opened by value, and a start
 pub stored-fits : PictureFits (opened .picture) × Bytes (start 30 1)
@@ -89,5 +129,5 @@ pub ends-with
     })
     × (run overRecords lent backwards ≡ run overRecords lent forwards)
     × (cursorComplete (run overRecords lent forwards .picture) (run overRecords lent forwards .image) (run overRecords lent forwards .marks) .yes ≡ true)
-unfolding run nextLent cursorStore cursorComplete recordsWhole pointerLeft pictureLeft samePicture sameStart moves stored assembled assembledAs storeStatus storeChecks held hasRoom judging openedRules otherRules ofOpened startDiffers bytesDiffer conflictIn someBelow lesser isNewer distance movedTo openedFor clearedFor imageAfter marksAfter withStart pictureAfter pointerAfter splice laid fragmentChecks fragmentFrame firstOf frameChecks rtpHolds unusedZero numberIn numberAt bytesIn signed takesType headerLength imageData startOf noStart startIn offsetBits placeOf outside fragmentAs pictureOf pointerOf pictureBytes startBytes firstEmptyOf firstEmpty completeness positionAt
+unfolding run nextLent cursorStore cursorComplete recordsWhole pointerLeft pictureLeft samePicture sameStart moves stored assembled assembledAs storeStatus storeChecks held hasRoom judging openedRules otherRules ofOpened startDiffers bytesDiffer conflictIn someBelow lesser isNewer distance movedTo openedFor clearedFor imageAfter marksAfter withStart pictureAfter pointerAfter splice laid fragmentChecks fragmentFrame firstOf frameChecks rtpHolds numberIn numberAt bytesIn signed takesType headerLength imageData startOf noStart startIn offsetBits placeOf outside fragmentAs pictureOf pointerOf pictureBytes startBytes firstEmptyOf firstEmpty completeness positionAt
 ends-with = (refl, refl, refl)

@@ -8,7 +8,7 @@ use Rattle.wire.specs.Number.{numberIn}
 use Rattle.wire.specs.Signed.{signed}
 use Rattle.wire.specs.declared.status.Status.the-variants as status
 use Rattle.wire.specs.Checks.{firstOf, accepted}
-use Rattle.cursor_packet.specs.Rtp.{unusedZero, rtpHolds}
+use Rattle.cursor_packet.specs.Rtp.{rtpHolds}
 use Rattle.cursor_packet.specs.Frame.{frameChecks}
 use Rattle.cursor_packet.specs.Position.{positionAt}
 use Rattle.cursor_packet.specs.Examples.{rtp}
@@ -24,7 +24,7 @@ pub p10
     : (fragmentStatus (eight 13 (0 ∷ 0 ∷ 0 ∷ 8 ∷ [])) ≡ status.Accepted)
     × (fragmentStatus (eight 15 (0 ∷ 0 ∷ 0 ∷ 7 ∷ 65 ∷ 66 ∷ [])) ≡ status.OutsideImage)
     × (fragmentStatus (eight 13 (0xff ∷ 0xff ∷ 0xff ∷ 0xff ∷ [])) ≡ status.OutsideImage)
-unfolding fragmentFrame fragmentChecks firstOf frameChecks rtpHolds unusedZero numberIn signed takesType headerLength imageData offsetBits outside
+unfolding fragmentFrame fragmentChecks firstOf frameChecks rtpHolds numberIn signed takesType headerLength imageData offsetBits outside
 p10 = (refl, refl, refl)
 
 -- a start: total 4, id 9, position −2, 10, image type 3, hot spot 1, 2, two bytes of data
@@ -42,7 +42,7 @@ pub start-read
       starts = true;
       start = record { «image_type» = 3; «hot_x» = 1; «hot_y» = 2 };
     })
-unfolding readFragment fragmentAs startIn startOf placeOf fragmentFrame fragmentChecks firstOf frameChecks rtpHolds unusedZero numberIn signed takesType headerLength imageData offsetBits outside
+unfolding readFragment fragmentAs startIn startOf placeOf fragmentFrame fragmentChecks firstOf frameChecks rtpHolds numberIn signed takesType headerLength imageData offsetBits outside
 start-read = refl
 
 pub start-moves-to : startPosition start ≡ record { sequence = 5; x = negsuc 1; y = pos 10 }
@@ -61,7 +61,7 @@ pub in-order
     × (fragmentStatus (rtp 5 ++ (1 ∷ 0 ∷ 0 ∷ [])) ≡ status.UnknownKind)
     × (fragmentStatus (rtp 5 ++ (3 ∷ 0 ∷ 12 ∷ [])) ≡ status.WrongSize)
     × (fragmentStatus (rtp 5 ++ (3 ∷ 0 ∷ 13 ∷ [])) ≡ status.Truncated)
-unfolding fragmentFrame fragmentChecks firstOf frameChecks rtpHolds unusedZero numberIn signed takesType headerLength imageData offsetBits outside
+unfolding fragmentFrame fragmentChecks firstOf frameChecks rtpHolds numberIn signed takesType headerLength imageData offsetBits outside
 in-order = (refl, refl, refl, refl, refl)
 
 -- The premises of the theorems are met.
@@ -72,7 +72,7 @@ pub offset-kept
     : (accepted (fragmentStatus (eight 14 (0 ∷ 0 ∷ 0 ∷ 7 ∷ 65 ∷ []))) ≡ true)
     × (fragmentOf (eight 14 (0 ∷ 0 ∷ 0 ∷ 7 ∷ 65 ∷ [])) .offset ≡ 7)
     × (dataOf (eight 14 (0 ∷ 0 ∷ 0 ∷ 7 ∷ 65 ∷ [])) ≡ 65 ∷ [])
-unfolding fragmentFrame fragmentChecks firstOf frameChecks rtpHolds unusedZero numberIn signed takesType headerLength imageData offsetBits outside fragmentAs placeOf
+unfolding fragmentFrame fragmentChecks firstOf frameChecks rtpHolds numberIn signed takesType headerLength imageData offsetBits outside fragmentAs placeOf
 offset-kept = (refl, refl, refl)
 
 -- Without a premise: NumberByChecks.

@@ -1,6 +1,6 @@
 // The RTP header that each cursor packet begins with (003 section 2.2).
 ghost use mathlib.Core.Path.{_≡_};
-ghost use Rattle.cursor_packet.specs.Rtp.{unusedZero, rtpHolds, rtpOf};
+ghost use Rattle.cursor_packet.specs.Rtp.{rtpHolds, rtpOf};
 use wire::number;
 
 // The field of the header that differs from packet to packet.
@@ -15,28 +15,15 @@ impl Rtp {
     pub const FIRST_TWO: u16 = 0x8000;
 }
 
-// Whether timestamp and SSRC are 0.
-fn unused_zero(packet: &[u8]) -> bool
-    ensures { λ r. ⌜ r ≡ unusedZero (now (packet .entry)) ⌝ }
-{
-    if number::u32_at(packet, 4) == 0 {
-        let identifier = number::u32_at(packet, 8);
-        return identifier == 0;
-    }
-    false
-}
-
-// Whether the packet has the header of a cursor packet. After the test of its length no byte of it needs one.
+// Whether the packet has the header of a cursor packet: 12 bytes, of which the first two are judged. The sequence number may be any, and
+// timestamp and SSRC are not looked at (02 §2).
 pub fn holds(packet: &[u8]) -> bool
     ensures { λ r. ⌜ r ≡ rtpHolds (now (packet .entry)) ⌝ }
 {
     if packet.len() < Rtp::HEADER {
         return false;
     }
-    if number::u16_at(packet, 0) == Rtp::FIRST_TWO {
-        return unused_zero(packet);
-    }
-    false
+    number::u16_at(packet, 0) == Rtp::FIRST_TWO
 }
 
 // The header's field.

@@ -17,7 +17,7 @@ use Rattle.scan.specs.Empty.{firstEmpty}
 use Rattle.scan.specs.Order.{lesser}
 use Rattle.wire.specs.Checks.{firstOf}
 use Rattle.cursor_packet.specs.Frame.{frameChecks}
-use Rattle.cursor_packet.specs.Rtp.{rtpHolds, unusedZero}
+use Rattle.cursor_packet.specs.Rtp.{rtpHolds}
 use Rattle.cursor_packet.specs.Position.{positionChecks, positionAt}
 use Rattle.cursor_fragment.specs.Fragment.{takesType, headerLength, imageData, offsetBits, placeOf, outside, fragmentFrame, fragmentChecks, fragmentAs, fragmentOf, dataOf}
 use Rattle.cursor_fragment.specs.Start.{startOf, noStart, startIn, sameStart}
@@ -42,12 +42,12 @@ abbrev pub position9 : List ℕ
 position9 = rtp 0 5 ++ (1 ∷ 0 ∷ 7 ∷ 0xff ∷ 0xfe ∷ 0 ∷ 0x0a ∷ [])
 
 pub p9 : positioned freshPointer position9 ≡ pointer.Accepted (record { known = true; sequence = 5; x = negsuc 1; y = pos 10 })
-unfolding positioned positionStatus freshPointer movedTo isNewer positionChecks positionAt firstOf frameChecks rtpHolds unusedZero numberIn signed
+unfolding positioned positionStatus freshPointer movedTo isNewer positionChecks positionAt firstOf frameChecks rtpHolds numberIn signed
 p9 = refl
 
 -- the same packet again is not newer
 pub p9-again : positioned (record { known = true; sequence = 5; x = negsuc 1; y = pos 10 }) position9 ≡ pointer.Refused status.NotNewer 0
-unfolding positioned positionStatus movedTo isNewer distance positionChecks positionAt firstOf frameChecks rtpHolds unusedZero numberIn signed
+unfolding positioned positionStatus movedTo isNewer distance positionChecks positionAt firstOf frameChecks rtpHolds numberIn signed
 p9-again = refl
 
 -- a continuation of total 8, id 1, with a PacketMsgSize below 256, an offset and data
@@ -62,7 +62,7 @@ pub p10
     : (storeStatus freshPicture (eight 13 (0 ∷ 0 ∷ 0 ∷ 8 ∷ [])) nine nine ≡ status.Accepted)
     × (storeStatus freshPicture (eight 15 (0 ∷ 0 ∷ 0 ∷ 7 ∷ 65 ∷ 66 ∷ [])) nine nine ≡ status.OutsideImage)
     × (storeStatus freshPicture (eight 13 (0xff ∷ 0xff ∷ 0xff ∷ 0xff ∷ [])) nine nine ≡ status.OutsideImage)
-unfolding storeStatus storeChecks freshPicture held hasRoom judging openedRules otherRules ofOpened isNewer fragmentChecks fragmentFrame firstOf frameChecks rtpHolds unusedZero numberIn signed takesType headerLength imageData offsetBits placeOf outside fragmentAs
+unfolding storeStatus storeChecks freshPicture held hasRoom judging openedRules otherRules ofOpened isNewer fragmentChecks fragmentFrame firstOf frameChecks rtpHolds numberIn signed takesType headerLength imageData offsetBits placeOf outside fragmentAs
 p10 = (refl, refl, refl)
 
 -- The premises of demand 3 can be met: a picture of four bytes under id 9, its last place filled, and two lists of the same three
@@ -112,7 +112,7 @@ pub ends-with
     × (run byValue opened backwards .marks ≡ 1 ∷ 1 ∷ 1 ∷ 1 ∷ 7 ∷ [])
     × (completeness (run byValue opened forwards .picture) 5 (run byValue opened forwards .marks) ≡ complete.Yes)
     × (completeness (opened .picture) 5 (opened .marks) ≡ complete.No)
-unfolding run next stored assembled assembledAs storeStatus storeChecks held hasRoom judging openedRules otherRules ofOpened sameStart startDiffers bytesDiffer conflictIn someBelow lesser isNewer distance movedTo openedFor clearedFor imageAfter marksAfter withStart pictureAfter pointerAfter splice fragmentChecks fragmentFrame firstOf frameChecks rtpHolds unusedZero numberIn signed takesType headerLength imageData startOf noStart startIn offsetBits placeOf outside fragmentAs firstEmptyOf firstEmpty completeness
+unfolding run next stored assembled assembledAs storeStatus storeChecks held hasRoom judging openedRules otherRules ofOpened sameStart startDiffers bytesDiffer conflictIn someBelow lesser isNewer distance movedTo openedFor clearedFor imageAfter marksAfter withStart pictureAfter pointerAfter splice fragmentChecks fragmentFrame firstOf frameChecks rtpHolds numberIn signed takesType headerLength imageData startOf noStart startIn offsetBits placeOf outside fragmentAs firstEmptyOf firstEmpty completeness
 ends-with = (refl, refl, refl, refl, refl)
 
 -- The premises of the other theorems are met.
@@ -162,7 +162,7 @@ pub picture-kept
     × (ofOpened (next opened (start 30 1) .picture) (fragmentOf (start 39 1)) ≡ true)
     × (next opened (start 30 1) .picture .seen ≡ true)
     × (next (next opened (start 30 1)) (start 39 1) .picture ≡ next opened (start 30 1) .picture)
-unfolding next stored assembled assembledAs storeStatus storeChecks held hasRoom judging openedRules otherRules ofOpened sameStart startDiffers bytesDiffer conflictIn someBelow lesser openedFor clearedFor imageAfter marksAfter withStart pictureAfter splice fragmentChecks fragmentFrame firstOf frameChecks rtpHolds unusedZero numberIn signed takesType headerLength imageData startOf noStart startIn offsetBits placeOf outside fragmentAs
+unfolding next stored assembled assembledAs storeStatus storeChecks held hasRoom judging openedRules otherRules ofOpened sameStart startDiffers bytesDiffer conflictIn someBelow lesser openedFor clearedFor imageAfter marksAfter withStart pictureAfter splice fragmentChecks fragmentFrame firstOf frameChecks rtpHolds numberIn signed takesType headerLength imageData startOf noStart startIn offsetBits placeOf outside fragmentAs
 picture-kept = (refl, refl, refl, refl)
 
 -- OutsideKept: the place before those of a continuation of the opened id; and the place after the total
@@ -181,7 +181,7 @@ pub former-stays-closed
     × (fragmentOf (start 0 1) .id ≡ fragmentOf late .id → ⊥)
     × (isNewer true (fragmentOf (start 0 1) .sequence) (fragmentOf late .sequence) ≡ false)
     × (numbered (answered (next former (start 0 1)) late .answer) ≡ record { number = 11; place = 0 })
-unfolding next stored assembled assembledAs storeStatus storeChecks held hasRoom judging openedRules otherRules ofOpened startDiffers bytesDiffer conflictIn someBelow lesser isNewer distance openedBy openedFor clearedFor imageAfter marksAfter withStart pictureAfter splice fragmentChecks fragmentFrame firstOf frameChecks rtpHolds unusedZero numberIn signed takesType headerLength imageData startOf noStart startIn offsetBits placeOf outside fragmentAs
+unfolding next stored assembled assembledAs storeStatus storeChecks held hasRoom judging openedRules otherRules ofOpened startDiffers bytesDiffer conflictIn someBelow lesser isNewer distance openedBy openedFor clearedFor imageAfter marksAfter withStart pictureAfter splice fragmentChecks fragmentFrame firstOf frameChecks rtpHolds numberIn signed takesType headerLength imageData startOf noStart startIn offsetBits placeOf outside fragmentAs
 former-stays-closed = (refl, refl, λ e. let no : ⊥ = omega arith in no, refl, refl)
 
 -- DemandThree: PremisesMet, above. Without a premise: NumberByChecks.

@@ -28,7 +28,7 @@ use Rattle.session_step.specs.Step.{optionsFrom, sourceAfter, accepted, stepOf}
 use Rattle.cursor_packet.specs.declared.position.PositionAnswer.{PositionAnswer}
 use Rattle.cursor_packet.specs.declared.position.PositionAnswer.the-variants as positioned
 use Rattle.wire.specs.Checks.{firstOf}
-use Rattle.cursor_packet.specs.Rtp.{unusedZero, rtpHolds}
+use Rattle.cursor_packet.specs.Rtp.{rtpHolds}
 use Rattle.cursor_packet.specs.Frame.{frameChecks}
 use Rattle.cursor_packet.specs.Position.{positionChecks, positionAt, readPosition}
 use Rattle.cursor_fragment.specs.Fragment.{takesType, headerLength, imageData, offsetBits, outside, fragmentFrame, fragmentChecks, fragmentStatus}
@@ -153,7 +153,7 @@ unfolding
     examples afterSize withoutPort rtp ofTotal8 isPort same sameInteger isPosition isNumber isClosed closesIt holds allHold
     allBelow numberIn distance isNewer signed
     rolesOf roleOf lengthsOf lengthIn lengthOk knownCommand fieldOf withField emptyOf headerStatus hasNeeded isComplete tlvAt lastOf tlvsFrom readMessage portOf
-    firstOf unusedZero rtpHolds frameChecks positionChecks positionAt readPosition
+    firstOf rtpHolds frameChecks positionChecks positionAt readPosition
     takesType headerLength imageData offsetBits outside fragmentFrame fragmentChecks
     within digitValue isDigit hexNumber readDigits
     isEvent carried otherSource optionsFrom sourceAfter accepted stepOf

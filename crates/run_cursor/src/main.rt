@@ -86,7 +86,7 @@ fn call_complete(picture: &[u8], image: &[u8], marks: &[u8]) {
 }
 
 // P9, the same again, 32,767 ahead (with the position of 003 section 4), an older one, 65,535, 0 after it; then a start, a wrong size,
-// too few bytes twice, too many, and an SSRC that is not 0.
+// too few bytes twice, too many; an SSRC that is not 0, which is taken (02 §2), another first byte, and another second one.
 fn positions() {
     let p9 = b"\x80\x00\x00\x05\x00\x00\x00\x00\x00\x00\x00\x00\x01\x00\x07\xff\xfe\x00\x0a";
     let mut pointer = [0u8; pointer_layout::LENGTH];
@@ -130,6 +130,14 @@ fn positions() {
         &mut pointer,
         b"\x80\x00\x00\x05\x00\x00\x00\x00\x00\x00\x00\x01\x01\x00\x07\xff\xfe\x00\x0a",
     );
+    call_position(
+        &mut pointer,
+        b"\x81\x00\x00\x05\x00\x00\x00\x00\x00\x00\x00\x00\x01\x00\x07\xff\xfe\x00\x0a",
+    );
+    call_position(
+        &mut pointer,
+        b"\x80\x01\x00\x05\x00\x00\x00\x00\x00\x00\x00\x00\x01\x00\x07\xff\xfe\x00\x0a",
+    );
 }
 
 // P10, each on fresh records and untouched bytes: total 8; offset 8 with no data; offset 7 with two bytes; offset FFFFFFFF hex.
@@ -156,18 +164,12 @@ fn offsets() {
     );
 }
 
-// 003 section 4: 512 bytes of image, a start with the first 256 and a continuation with the others, sequence numbers 0 and 1.
-fn shape() {
+// 003 section 4: 512 bytes of image, a start with the first 256 and a continuation with the others. Given are what stands before the data.
+fn shape(start: &[u8], continuation: &[u8]) {
     let mut first = [65u8; 286];
-    bytes::copy(
-        &mut first,
-        b"\x80\x00\x00\x00\x00\x00\x00\x00\x00\x00\x00\x00\x02\x01\x12\x00\x00\x02\x00\x12\x34\x00\x0c\x00\x0a\x03\x00\x12\x00\x0f",
-    );
+    bytes::copy(&mut first, start);
     let mut second = [66u8; 281];
-    bytes::copy(
-        &mut second,
-        b"\x80\x00\x00\x01\x00\x00\x00\x00\x00\x00\x00\x00\x03\x01\x0d\x00\x00\x02\x00\x12\x34\x00\x00\x01\x00",
-    );
+    bytes::copy(&mut second, continuation);
     let mut pointer = [0u8; pointer_layout::LENGTH];
     let mut picture = [0u8; picture_layout::LENGTH];
     cursor_calls::pointer_fresh(&mut pointer);
@@ -180,6 +182,18 @@ fn shape() {
     call_store(&mut pointer, &mut picture, &second, &mut image, &mut marks);
     print_bytes(&image, &marks, 256);
     call_complete(&picture, &image, &marks);
+}
+
+// With sequence numbers 0 and 1: timestamp and SSRC 0, and then filled, which changes nothing (02 §2).
+fn shapes() {
+    shape(
+        b"\x80\x00\x00\x00\x00\x00\x00\x00\x00\x00\x00\x00\x02\x01\x12\x00\x00\x02\x00\x12\x34\x00\x0c\x00\x0a\x03\x00\x12\x00\x0f",
+        b"\x80\x00\x00\x01\x00\x00\x00\x00\x00\x00\x00\x00\x03\x01\x0d\x00\x00\x02\x00\x12\x34\x00\x00\x01\x00",
+    );
+    shape(
+        b"\x80\x00\x00\x00\x11\x22\x33\x44\xaa\xbb\xcc\xdd\x02\x01\x12\x00\x00\x02\x00\x12\x34\x00\x0c\x00\x0a\x03\x00\x12\x00\x0f",
+        b"\x80\x00\x00\x01\x11\x22\x33\x44\xaa\xbb\xcc\xdd\x03\x01\x0d\x00\x00\x02\x00\x12\x34\x00\x00\x01\x00",
+    );
 }
 
 // What a host keeps: both records, and a picture and marks of five places.
@@ -317,7 +331,7 @@ fn wraps() {
 fn main() {
     positions();
     offsets();
-    shape();
+    shapes();
     orders();
     wraps();
 }

@@ -1,15 +1,16 @@
 // The cursor packets of 003 section 4: a position, and a shape of 512 bytes in a start and a continuation. The document prints no RTP headers and
-// no image: here the sequence numbers are 0, 1 and 2, and the halves of the image are 65 and 66.
+// no image: here the sequence numbers are 0, 1 and 2, and the halves of the image are 65 and 66. Then positions with timestamp and SSRC filled
+// (02 §2).
 use cursor_layout::picture_layout;
 use cursor_layout::pointer_layout;
 use scan::bytes;
-use wire::signed;
 
-// The position, by its two's complement: those of the document are not negative.
 fn show_pointer(record: &[u8]) {
     let pointer = pointer_layout::read(record);
-    print::field(b" x", signed::unsigned16(pointer.x) as u64);
-    print::field(b" y", signed::unsigned16(pointer.y) as u64);
+    print::text(b" x");
+    print::signed(pointer.x);
+    print::text(b" y");
+    print::signed(pointer.y);
 }
 
 fn show_picture(record: &[u8]) {
@@ -67,8 +68,8 @@ fn store(
     show_complete(picture, image, marks);
 }
 
-// Each packet in its line.
-pub fn run() {
+// 003's packets, each in its line.
+fn printed() {
     let mut pointer = [0u8; pointer_layout::LENGTH];
     let mut picture = [0u8; picture_layout::LENGTH];
     cursor_calls::pointer_fresh(&mut pointer);
@@ -94,4 +95,34 @@ pub fn run() {
     );
     print::text(b"003-4-continuation");
     store(&mut pointer, &mut picture, &second, &mut image, &mut marks);
+}
+
+// A position on a fresh pointer.
+fn fresh_position(packet: &[u8]) {
+    let mut pointer = [0u8; pointer_layout::LENGTH];
+    cursor_calls::pointer_fresh(&mut pointer);
+    position(&mut pointer, packet);
+}
+
+// 02 §2: timestamp and SSRC are ignored, the first two bytes are judged, and fewer than 15 bytes are 1 before that.
+fn filled() {
+    let packet = b"\x80\x00\x00\x05\x11\x22\x33\x44\xaa\xbb\xcc\xdd\x01\x00\x07\xff\xfe\x00\x0a";
+    print::text(b"02-2-fields-filled");
+    fresh_position(packet);
+    print::text(b"02-2-first-byte-81");
+    fresh_position(
+        b"\x81\x00\x00\x05\x11\x22\x33\x44\xaa\xbb\xcc\xdd\x01\x00\x07\xff\xfe\x00\x0a",
+    );
+    print::text(b"02-2-first-14-bytes");
+    fresh_position(b"\x80\x00\x00\x05\x11\x22\x33\x44\xaa\xbb\xcc\xdd\x01\x00");
+    print::text(b"02-2-second-byte-01");
+    fresh_position(
+        b"\x80\x01\x00\x05\x11\x22\x33\x44\xaa\xbb\xcc\xdd\x01\x00\x07\xff\xfe\x00\x0a",
+    );
+}
+
+// Each packet in its line.
+pub fn run() {
+    printed();
+    filled();
 }

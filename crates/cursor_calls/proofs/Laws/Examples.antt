@@ -16,7 +16,7 @@ use Rattle.scan.specs.Conflict.{conflictIn}
 use Rattle.scan.specs.Order.{lesser}
 use Rattle.cursor_packet.specs.Frame.{frameChecks}
 use Rattle.cursor_packet.specs.Position.{positionAt}
-use Rattle.cursor_packet.specs.Rtp.{rtpHolds, unusedZero}
+use Rattle.cursor_packet.specs.Rtp.{rtpHolds}
 use Rattle.cursor_fragment.specs.Fragment.{takesType, headerLength, imageData, offsetBits, placeOf, outside, fragmentFrame, fragmentChecks, fragmentAs}
 use Rattle.cursor_fragment.specs.Start.{startOf, noStart, startIn, sameStart}
 use Rattle.cursor_pointer.specs.Pointer.{movedTo}
@@ -64,11 +64,11 @@ unfolding pictureOf numberAt numberIn
 agree l a = record { common = a .common; seen = a .seen; starts = a .starts }
 
 forwards-taken : Taken byValue whole opened forwards → Taken overRecords whole lent forwards
-unfolding nextLent cursorStore recordsWhole pointerLeft pictureLeft samePicture sameStart moves stored assembled assembledAs storeStatus storeChecks held hasRoom judging openedRules otherRules ofOpened startDiffers bytesDiffer conflictIn someBelow lesser isNewer distance movedTo openedFor clearedFor imageAfter marksAfter withStart pictureAfter pointerAfter splice laid fragmentChecks fragmentFrame firstOf frameChecks rtpHolds unusedZero numberIn numberAt bytesIn signed takesType headerLength imageData startOf noStart startIn offsetBits placeOf outside fragmentAs pictureOf pointerOf pictureBytes startBytes positionAt
+unfolding nextLent cursorStore recordsWhole pointerLeft pictureLeft samePicture sameStart moves stored assembled assembledAs storeStatus storeChecks held hasRoom judging openedRules otherRules ofOpened startDiffers bytesDiffer conflictIn someBelow lesser isNewer distance movedTo openedFor clearedFor imageAfter marksAfter withStart pictureAfter pointerAfter splice laid fragmentChecks fragmentFrame firstOf frameChecks rtpHolds numberIn numberAt bytesIn signed takesType headerLength imageData startOf noStart startIn offsetBits placeOf outside fragmentAs pictureOf pointerOf pictureBytes startBytes positionAt
 forwards-taken t = (t .0, (refl, (t .1 .1 .0, (t .1 .1 .1 .0, (t .1 .1 .1 .1 .0, tt)))))
 
 backwards-taken : Taken byValue whole opened backwards → Taken overRecords whole lent backwards
-unfolding nextLent cursorStore recordsWhole pointerLeft pictureLeft samePicture sameStart moves stored assembled assembledAs storeStatus storeChecks held hasRoom judging openedRules otherRules ofOpened startDiffers bytesDiffer conflictIn someBelow lesser isNewer distance movedTo openedFor clearedFor imageAfter marksAfter withStart pictureAfter pointerAfter splice laid fragmentChecks fragmentFrame firstOf frameChecks rtpHolds unusedZero numberIn numberAt bytesIn signed takesType headerLength imageData startOf noStart startIn offsetBits placeOf outside fragmentAs pictureOf pointerOf pictureBytes startBytes positionAt
+unfolding nextLent cursorStore recordsWhole pointerLeft pictureLeft samePicture sameStart moves stored assembled assembledAs storeStatus storeChecks held hasRoom judging openedRules otherRules ofOpened startDiffers bytesDiffer conflictIn someBelow lesser isNewer distance movedTo openedFor clearedFor imageAfter marksAfter withStart pictureAfter pointerAfter splice laid fragmentChecks fragmentFrame firstOf frameChecks rtpHolds numberIn numberAt bytesIn signed takesType headerLength imageData startOf noStart startIn offsetBits placeOf outside fragmentAs pictureOf pointerOf pictureBytes startBytes positionAt
 backwards-taken t = (t .0, (t .1 .0, (refl, (t .1 .1 .1 .0, (t .1 .1 .1 .1 .0, tt)))))
 
 pub met : PremisesMet

@@ -14,7 +14,7 @@ use Rattle.scan.specs.Empty.{filledAt}
 use Rattle.scan.specs.Order.{lesser}
 use Rattle.wire.specs.Checks.{firstOf}
 use Rattle.cursor_packet.specs.Frame.{frameChecks}
-use Rattle.cursor_packet.specs.Rtp.{rtpHolds, unusedZero}
+use Rattle.cursor_packet.specs.Rtp.{rtpHolds}
 use Rattle.cursor_fragment.specs.Fragment.{takesType, headerLength, imageData, offsetBits, placeOf, outside, fragmentFrame, fragmentChecks, fragmentAs}
 use Rattle.cursor_fragment.specs.Start.{startOf, noStart, startIn, sameStart}
 use Rattle.cursor_picture.specs.Picture.{hasRoom, held}
@@ -39,23 +39,23 @@ is-opened = record { opened = refl; same-id = refl; same-total = refl; clear = r
 
 module _ (sequence : ℕ) where
   start-cut : CutFrom whole (start sequence 1)
-  unfolding fragmentChecks fragmentFrame firstOf frameChecks rtpHolds unusedZero numberIn takesType headerLength imageData offsetBits placeOf outside signed fragmentAs
+  unfolding fragmentChecks fragmentFrame firstOf frameChecks rtpHolds numberIn takesType headerLength imageData offsetBits placeOf outside signed fragmentAs
   start-cut = record { well-formed = refl; same-id = refl; same-total = refl; same-bytes = refl }
 
   middle-cut : CutFrom whole (middle sequence)
-  unfolding fragmentChecks fragmentFrame firstOf frameChecks rtpHolds unusedZero numberIn signed takesType headerLength imageData offsetBits placeOf outside fragmentAs
+  unfolding fragmentChecks fragmentFrame firstOf frameChecks rtpHolds numberIn signed takesType headerLength imageData offsetBits placeOf outside fragmentAs
   middle-cut = record { well-formed = refl; same-id = refl; same-total = refl; same-bytes = refl }
 
   last-cut : CutFrom whole (last sequence)
-  unfolding fragmentChecks fragmentFrame firstOf frameChecks rtpHolds unusedZero numberIn signed takesType headerLength imageData offsetBits placeOf outside fragmentAs
+  unfolding fragmentChecks fragmentFrame firstOf frameChecks rtpHolds numberIn signed takesType headerLength imageData offsetBits placeOf outside fragmentAs
   last-cut = record { well-formed = refl; same-id = refl; same-total = refl; same-bytes = refl }
 
 forwards-taken : Taken byValue whole opened forwards
-unfolding next stored assembled assembledAs storeStatus storeChecks held hasRoom judging openedRules otherRules ofOpened sameStart startDiffers bytesDiffer conflictIn someBelow lesser openedFor clearedFor imageAfter marksAfter withStart pictureAfter splice fragmentChecks fragmentFrame firstOf frameChecks rtpHolds unusedZero numberIn signed takesType headerLength imageData startOf noStart startIn offsetBits placeOf outside fragmentAs
+unfolding next stored assembled assembledAs storeStatus storeChecks held hasRoom judging openedRules otherRules ofOpened sameStart startDiffers bytesDiffer conflictIn someBelow lesser openedFor clearedFor imageAfter marksAfter withStart pictureAfter splice fragmentChecks fragmentFrame firstOf frameChecks rtpHolds numberIn signed takesType headerLength imageData startOf noStart startIn offsetBits placeOf outside fragmentAs
 forwards-taken = (start-cut 30, (refl, (middle-cut 31, (last-cut 32, (middle-cut 31, tt)))))
 
 backwards-taken : Taken byValue whole opened backwards
-unfolding next stored assembled assembledAs storeStatus storeChecks held hasRoom judging openedRules otherRules ofOpened sameStart startDiffers bytesDiffer conflictIn someBelow lesser openedFor clearedFor imageAfter marksAfter withStart pictureAfter splice fragmentChecks fragmentFrame firstOf frameChecks rtpHolds unusedZero numberIn signed takesType headerLength imageData startOf noStart startIn offsetBits placeOf outside fragmentAs
+unfolding next stored assembled assembledAs storeStatus storeChecks held hasRoom judging openedRules otherRules ofOpened sameStart startDiffers bytesDiffer conflictIn someBelow lesser openedFor clearedFor imageAfter marksAfter withStart pictureAfter splice fragmentChecks fragmentFrame firstOf frameChecks rtpHolds numberIn signed takesType headerLength imageData startOf noStart startIn offsetBits placeOf outside fragmentAs
 backwards-taken = (last-cut 7, (start-cut 39, (refl, (middle-cut 2, (start-cut 39, tt)))))
 
 forwards-agree : Agreeing byValue opened forwards

@@ -1,7 +1,12 @@
--- One test for each of the header's fields. Assumes nothing.
-use borrow.Author.Tests.{lt-leb, le-leb, eq-eqb, ne-eqb}
+-- The first two bytes are tested as one number. Assumes nothing.
+use Prim.Native.Nat.{ℕ}
+use native.Mathlib.Omega.{arith}
+use denote.Ref.{now}
+use borrow.Author.Tests.{lt-leb, le-leb}
 use borrow.Author.Needs.{needs}
+use Rattle.wire.specs.Number.{Bytes}
 use Rattle.cursor_packet.specs.Rtp.{rtpHolds}
+use Rattle.cursor_packet.proofs.Laws.Rtp.{first-two}
 use Rattle.cursor_packet.proofs.rtp.holds.Statement.{statement}
 use Rattle.cursor_packet.proofs.rtp.holds.Tie as tie
 
@@ -12,14 +17,11 @@ returns c = simp (lt-leb 12 _ (c .if1 .taken))
 returns-2 : tie.Need-returns-2
 unfolding rtpHolds
 returns-2 c =
-    let i = c .before in
-    simp (le-leb 12 _ (i .before .before .if1 .left), ← i .before .u16-at .ensures, eq-eqb _ _ (i .if2 .taken)) (c .unused-zero .ensures)
-
-returns-3 : tie.Need-returns-3
-unfolding rtpHolds
-returns-3 c = simp (le-leb 12 _ (c .before .before .if1 .left), ← c .before .u16-at .ensures, ne-eqb _ _ (c .if2 .left))
+    let k = c .before .before in
+    let small : Bytes (now (k .before .args .packet)) = λ (i : ℕ). omega (arith, k .shared-slice-known .given i) in
+    simp (le-leb 12 _ (c .before .if1 .left)) (rw (c .u16-at .ensures) (first-two (now (k .before .args .packet)) 0x80 0 small (omega arith)))
 
 pub holds-spec : {M : Type 1} → statement M
 holds-spec =
     tie.close
-    (tie.spec returns (λ c κs. search needs) (λ c κs. search needs) returns-2 returns-3)
+    (tie.spec returns (λ c κs. search needs) returns-2)

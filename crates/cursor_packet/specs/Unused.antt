@@ -1,0 +1,43 @@
+-- Timestamp and SSRC, bytes 4 to 11 of a packet, are ignored (02 §2: "Two packets that differ only there give the same answer and state"), and
+-- refusal 3 is for the first two bytes alone. The proofs stand in proofs/Laws/Unused.antt. Assumes nothing.
+use Prim.Native.Nat.{ℕ, _+_, _≤_}
+use mathlib.Core.Path.{_≡_}
+use mathlib.Core.Bool.{Bool}
+use mathlib.Core.List.{List}
+use mathlib.Core.Logic.{_⊎_, _↔_}
+use lib.ListN.{length, getD, take, drop}
+use Rattle.wire.specs.Number.{number}
+use Rattle.wire.specs.Status.{numberOf}
+use Rattle.wire.specs.Checks.{firstOf}
+use Rattle.cursor_packet.specs.Frame.{typeOf, sizeOf, frameChecks}
+
+-- two packets that differ only there: one is as long as the other, and what stands before and what follows those eight bytes is the same
+pub record DifferOnlyThere (a b : List ℕ) : Type 0 where
+  pub as-long : length a ≡ length b
+  pub before : take 4 a ≡ take 4 b
+  pub after : drop 12 a ≡ drop 12 b
+
+-- Two packets are read alike: by a call that takes these types, whatever they are, of these sizes, the same list of checks; and all that a
+-- call can take from a packet is the same: a number that stands before or after those eight bytes, and what follows them.
+pub record ReadAlike (a b : List ℕ) : Type 0 where
+  pub checks
+      : (types : ℕ → Bool) (sizes : ℕ → ℕ → Bool)
+      → frameChecks (types (typeOf a)) (sizes (typeOf a) (sizeOf a)) a ≡ frameChecks (types (typeOf b)) (sizes (typeOf b) (sizeOf b)) b
+  pub numbers : (n at : ℕ) → (at + n ≤ 4) ⊎ (12 ≤ at) → number n a at ≡ number n b at
+  pub rest : (at : ℕ) → 12 ≤ at → drop at a ≡ drop at b
+
+-- Packets that differ only in timestamp and SSRC are read alike.
+abbrev pub UnusedIgnored : Type 0
+UnusedIgnored = (a b : List ℕ) → DifferOnlyThere a b → ReadAlike a b
+
+-- the first byte is not 80 hex, or the second is not 0
+abbrev pub FirstTwoWrong : List ℕ → Type 0
+FirstTwoWrong p = (getD p 0 0 ≡ 0x80 → ⊥) ⊎ (getD p 1 0 ≡ 0 → ⊥)
+
+-- a packet of 15 bytes or more, of which the first two are wrong
+abbrev pub WrongHeader : List ℕ → Type 0
+WrongHeader p = (15 ≤ length p) × FirstTwoWrong p
+
+-- Refusal 3 is given exactly to such a packet, by a call that takes any types of any sizes.
+abbrev pub ThreeExactly : Type 0
+ThreeExactly = (taken fits : Bool) (p : List ℕ) → (numberOf (firstOf (frameChecks taken fits p)) ≡ 3) ↔ WrongHeader p
