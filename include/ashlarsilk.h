@@ -39,7 +39,7 @@ enum ashlarsilk_status {
     ASHLARSILK_TRUNCATED = 1,
     /* declared size below the header, not 7 for a position, or bytes left over after it */
     ASHLARSILK_WRONG_SIZE = 2,
-    /* Version not 1, or an RTP field with a wrong value */
+    /* Version not 1; of a cursor packet's RTP fields, first byte not 80 hex or second not 0 */
     ASHLARSILK_WRONG_HEADER = 3,
     /* unknown command, message type or session event, or a packet type not taken by the call */
     ASHLARSILK_UNKNOWN_KIND = 4,
@@ -335,6 +335,9 @@ ashlarsilk_written ashlarsilk_limits_write(const uint8_t *record, size_t record_
 
 /*
  * The cursor stream.
+ *
+ * Of a packet's RTP header the first two bytes must be 80 hex and 0, else 3, and the next two are the sequence number. Timestamp and SSRC, bytes 4
+ * to 11, are looked at by no call.
  *
  * The record of the pointer:
  *
