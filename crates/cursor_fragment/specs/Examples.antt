@@ -4,6 +4,7 @@ use mathlib.Core.Path.{_≡_, refl}
 use mathlib.Core.Bool.{true}
 use mathlib.Core.List.{List, [], _∷_, _++_}
 use lib.IntN.{pos, negsuc}
+use lib.ListN.{drop}
 use Rattle.wire.specs.Number.{numberIn}
 use Rattle.wire.specs.Signed.{signed}
 use Rattle.wire.specs.declared.status.Status.the-variants as status
@@ -11,7 +12,8 @@ use Rattle.wire.specs.Checks.{firstOf, accepted}
 use Rattle.cursor_packet.specs.Rtp.{rtpHolds}
 use Rattle.cursor_packet.specs.Frame.{frameChecks}
 use Rattle.cursor_packet.specs.Position.{positionAt}
-use Rattle.cursor_packet.specs.Examples.{rtp}
+use Rattle.cursor_packet.specs.Unused.{DifferOnlyThere}
+use Rattle.cursor_packet.specs.Examples.{rtp, filled}
 use Rattle.cursor_fragment.specs.declared.FragmentAnswer.the-variants as fragment
 use Rattle.cursor_fragment.specs.Fragment.{takesType, headerLength, imageData, offsetBits, placeOf, outside, fragmentFrame, fragmentChecks, fragmentAs, fragmentOf, fragmentStatus, dataOf, readFragment}
 use Rattle.cursor_fragment.specs.Start.{startOf, startIn, startPosition}
@@ -74,5 +76,13 @@ pub offset-kept
     × (dataOf (eight 14 (0 ∷ 0 ∷ 0 ∷ 7 ∷ 65 ∷ [])) ≡ 65 ∷ [])
 unfolding fragmentFrame fragmentChecks firstOf frameChecks rtpHolds numberIn signed takesType headerLength imageData offsetBits outside fragmentAs placeOf
 offset-kept = (refl, refl, refl)
+
+-- ReadAlike: the start, and the same with timestamp and SSRC filled (02 §2)
+pub filled-start
+    : DifferOnlyThere start (filled 5 ++ drop 12 start)
+    × (readFragment (filled 5 ++ drop 12 start) ≡ readFragment start)
+    × (dataOf (filled 5 ++ drop 12 start) ≡ 65 ∷ 66 ∷ [])
+unfolding readFragment fragmentAs startIn startOf placeOf fragmentFrame fragmentChecks firstOf frameChecks rtpHolds numberIn signed takesType headerLength imageData offsetBits outside
+filled-start = (record { as-long = refl; before = refl; after = refl }, refl, refl)
 
 -- Without a premise: NumberByChecks.

@@ -17,18 +17,18 @@ pub record DifferOnlyThere (a b : List ℕ) : Type 0 where
   pub before : take 4 a ≡ take 4 b
   pub after : drop 12 a ≡ drop 12 b
 
--- Two packets are read alike: by a call that takes these types, whatever they are, of these sizes, the same list of checks; and all that a
--- call can take from a packet is the same: a number that stands before or after those eight bytes, and what follows them.
-pub record ReadAlike (a b : List ℕ) : Type 0 where
+-- All that a call takes from a packet is the same of both: the list of checks by a call that takes these types of these sizes, whatever they
+-- are; a number that stands before or after those eight bytes; and what follows them.
+pub record PartsAlike (a b : List ℕ) : Type 0 where
   pub checks
       : (types : ℕ → Bool) (sizes : ℕ → ℕ → Bool)
       → frameChecks (types (typeOf a)) (sizes (typeOf a) (sizeOf a)) a ≡ frameChecks (types (typeOf b)) (sizes (typeOf b) (sizeOf b)) b
   pub numbers : (n at : ℕ) → (at + n ≤ 4) ⊎ (12 ≤ at) → number n a at ≡ number n b at
   pub rest : (at : ℕ) → 12 ≤ at → drop at a ≡ drop at b
 
--- Packets that differ only in timestamp and SSRC are read alike.
+-- So it is of packets that differ only in timestamp and SSRC. What the readers make of these parts: crate cursor_fragment, Unused.
 abbrev pub UnusedIgnored : Type 0
-UnusedIgnored = (a b : List ℕ) → DifferOnlyThere a b → ReadAlike a b
+UnusedIgnored = (a b : List ℕ) → DifferOnlyThere a b → PartsAlike a b
 
 -- the first byte is not 80 hex, or the second is not 0
 abbrev pub FirstTwoWrong : List ℕ → Type 0

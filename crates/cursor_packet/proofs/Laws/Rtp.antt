@@ -16,8 +16,10 @@ first-two s c d small to = go (eqb a c) refl (eqb b d) refl
   where
     a : ℕ
     a = getD s 0 0
+
     b : ℕ
     b = getD s 1 0
+
     go : (x : Bool) → eqb a c ≡ x → (y : Bool) → eqb b d ≡ y → eqb (256 * (0 + a) + b) (256 * c + d) ≡ (x && y)
     go true e true f = eq-eqb (256 * (0 + a) + b) (256 * c + d) (omega (arith, eqb-true a c e, eqb-true b d f))
     go true e false f = ne-eqb (256 * (0 + a) + b) (256 * c + d) (λ h. eqb-false b d f (omega (arith, eqb-true a c e)))

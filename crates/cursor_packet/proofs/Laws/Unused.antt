@@ -17,8 +17,8 @@ use Rattle.wire.proofs.Laws.Checks.{lacking, other-first, own-check}
 use Rattle.wire.proofs.Laws.Number.{number-same}
 use Rattle.cursor_packet.specs.Rtp.{rtpHolds}
 use Rattle.cursor_packet.specs.Frame.{typeOf, sizeOf, sizeChecks, frameChecks}
-use Rattle.cursor_packet.specs.Position.{positionChecks, positionAt}
-use Rattle.cursor_packet.specs.Unused.{DifferOnlyThere, ReadAlike, UnusedIgnored, FirstTwoWrong, WrongHeader, ThreeExactly}
+use Rattle.cursor_packet.specs.Position.{positionChecks, positionAt, readPosition}
+use Rattle.cursor_packet.specs.Unused.{DifferOnlyThere, PartsAlike, UnusedIgnored, FirstTwoWrong, WrongHeader, ThreeExactly}
 
 module _ (a b : List ℕ) (d : DifferOnlyThere a b) where
   elsewhere : (i : ℕ) → (i < 4) ⊎ (12 ≤ i) → getD a i 0 ≡ getD b i 0
@@ -43,29 +43,33 @@ module _ (a b : List ℕ) (d : DifferOnlyThere a b) where
 
   holds-alike : rtpHolds a ≡ rtpHolds b
   unfolding rtpHolds
-  holds-alike = rw (d .as-long, elsewhere 0 (inl (omega arith)), elsewhere 1 (inl (omega arith)))
+  holds-alike = simp (d .as-long, elsewhere 0 (inl (omega arith)), elsewhere 1 (inl (omega arith)))
 
   checks
       : (types : ℕ → Bool) (sizes : ℕ → ℕ → Bool)
       → frameChecks (types (typeOf a)) (sizes (typeOf a) (sizeOf a)) a ≡ frameChecks (types (typeOf b)) (sizes (typeOf b) (sizeOf b)) b
   unfolding frameChecks
-  checks types sizes = rw (d .as-long, holds-alike, numbers 1 12 (inr (omega arith)), numbers 2 13 (inr (omega arith)))
+  checks types sizes = simp (d .as-long, holds-alike, numbers 1 12 (inr (omega arith)), numbers 2 13 (inr (omega arith)))
 
-  alike : ReadAlike a b
+  alike : PartsAlike a b
   alike = record { checks = checks; numbers = numbers; rest = rest }
 
 pub unused-ignored : UnusedIgnored
 unused-ignored a b d = alike a b d
 
--- packets that are read alike are the same position, wherever its x and y stand
-module _ (a b : List ℕ) (r : ReadAlike a b) where
+-- packets of the same parts are the same position, wherever its x and y stand
+module _ (a b : List ℕ) (r : PartsAlike a b) where
   pub position-checks-alike : positionChecks a ≡ positionChecks b
   unfolding positionChecks
   position-checks-alike = r .checks (λ (t : ℕ). eqb t 1) (λ (t n : ℕ). eqb n 7)
 
   pub position-alike : (x y : ℕ) → 12 ≤ x → 12 ≤ y → positionAt x y a ≡ positionAt x y b
   unfolding positionAt
-  position-alike x y across down = rw (r .numbers 2 2 (inl (omega arith)), r .numbers 2 x (inr across), r .numbers 2 y (inr down))
+  position-alike x y across down = simp (r .numbers 2 2 (inl (omega arith)), r .numbers 2 x (inr across), r .numbers 2 y (inr down))
+
+  pub read-position-alike : readPosition a ≡ readPosition b
+  unfolding readPosition
+  read-position-alike = rw (position-checks-alike, position-alike 15 17 (omega arith) (omega arith))
 
 -- of a packet with all of its header, the first two bytes decide
 module _ (p : List ℕ) (long : 15 ≤ length p) where
@@ -97,6 +101,7 @@ pub three-exactly : ThreeExactly
 unfolding frameChecks
 three-exactly taken fits p =
     let short = other-first 3 refl status.Truncated (ltb (length p) 15) (refuse status.WrongHeader (not (rtpHolds p)) ∷ after taken fits p) refl in
-    let header = own-check 3 refl status.WrongHeader (not (rtpHolds p)) (after taken fits p) refl (none-after taken fits p) in
-    ( (λ e. let h = short .0 e in let l = ltb-false (length p) 15 (h .0) in (l, by-bytes p l (header .0 (h .1))))
-    , λ w. short .1 (le-ltb (length p) 15 (w .0), header .1 (by-rule p (w .0) (w .1))))
+    let header = own-check 3 refl status.WrongHeader (not (rtpHolds p)) (after taken fits p) refl (none-after taken fits p) in (
+      (λ e. let h = short .0 e in let l = ltb-false (length p) 15 (h .0) in (l, by-bytes p l (header .0 (h .1)))),
+      λ w. short .1 (le-ltb (length p) 15 (w .0), header .1 (by-rule p (w .0) (w .1))),
+    )

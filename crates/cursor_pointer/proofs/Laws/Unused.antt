@@ -1,4 +1,4 @@
--- The call for positions: packets that are read alike move the pointer alike, and 3 is for the first two bytes alone (02 §2). Assumes nothing.
+-- The call for positions: packets of the same parts move the pointer alike, and 3 is for the first two bytes alone (02 §2). Assumes nothing.
 use Prim.Native.Nat.{ℕ}
 use mathlib.Core.Path.{_≡_, refl}
 use mathlib.Core.Bool.{not}
@@ -12,12 +12,12 @@ use Rattle.wire.specs.Checks.{refuse}
 use Rattle.wire.proofs.Laws.Checks.{lacking, first-gives}
 use Rattle.cursor_packet.specs.Frame.{typeOf, sizeOf}
 use Rattle.cursor_packet.specs.Position.{positionChecks, positionOf}
-use Rattle.cursor_packet.specs.Unused.{ReadAlike, WrongHeader}
+use Rattle.cursor_packet.specs.Unused.{PartsAlike, WrongHeader}
 use Rattle.cursor_packet.proofs.Laws.Unused.{three-exactly, position-checks-alike, position-alike}
 use Rattle.cursor_pointer.specs.declared.Pointer.{Pointer}
 use Rattle.cursor_pointer.specs.Pointer.{pointerMoves, positionStatus, positioned}
 
-pub positioned-alike : (p : Pointer) (a b : List ℕ) → ReadAlike a b → positioned p a ≡ positioned p b
+pub positioned-alike : (p : Pointer) (a b : List ℕ) → PartsAlike a b → positioned p a ≡ positioned p b
 unfolding positioned positionStatus
 positioned-alike p a b r = rw (position-checks-alike a b r, position-alike a b r 15 17 (omega arith) (omega arith))
 

@@ -1,4 +1,4 @@
--- The call for starts and continuations: packets that are read alike do alike, and 3 is for the first two bytes alone (02 §2). Assumes nothing.
+-- The call for starts and continuations: packets of the same parts do alike, and 3 is for the first two bytes alone (02 §2). Assumes nothing.
 use Prim.Native.Nat.{ℕ}
 use mathlib.Core.Path.{_≡_, refl}
 use mathlib.Core.Bool.{true, not}
@@ -12,7 +12,7 @@ use Rattle.wire.specs.Checks.{Check, refuse}
 use Rattle.wire.proofs.Laws.Bool.{by-test}
 use Rattle.wire.proofs.Laws.Checks.{lacking, first-gives, other-first}
 use Rattle.cursor_packet.specs.Frame.{typeOf}
-use Rattle.cursor_packet.specs.Unused.{ReadAlike, WrongHeader}
+use Rattle.cursor_packet.specs.Unused.{PartsAlike, WrongHeader}
 use Rattle.cursor_packet.proofs.Laws.Unused.{three-exactly}
 use Rattle.cursor_fragment.specs.declared.Fragment.{Fragment}
 use Rattle.cursor_fragment.specs.Fragment.{takesType, isStart, sizeFits, isOutside, fragmentFrame, fragmentChecks, fragmentOf, dataOf}
@@ -24,7 +24,7 @@ use Rattle.cursor_store.specs.Judging.{ofOpened, openedRules, otherRules
 use Rattle.cursor_store.specs.Assembling.{storeChecks, storeStatus, assembled}
 use Rattle.cursor_store.specs.Storing.{moves, pointerAfter, stored}
 
-module _ (a b : List ℕ) (r : ReadAlike a b) where
+module _ (a b : List ℕ) (r : PartsAlike a b) where
   pub moves-alike : (p : Pointer) → moves p a ≡ moves p b
   unfolding moves
   moves-alike p = rw (starts-alike a b r, start-position-alike a b r)
