@@ -10,7 +10,7 @@ pub enum Status {
     Truncated,
     // 2: declared size below the header, not 7 for a position, or bytes left over after it.
     WrongSize,
-    // 3: Version not 1, or an RTP field not as the paper has it.
+    // 3: Version not 1, or of a packet's RTP header the first byte not 80 hex or the second not 0 (02 §2).
     WrongHeader,
     // 4: unknown command, message type or session event, or a packet type not taken by that call.
     UnknownKind,
