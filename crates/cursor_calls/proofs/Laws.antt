@@ -1,4 +1,4 @@
 pub mod CursorCalls
 pub mod Examples
 pub mod Records
-pub mod Unused
+pub mod UnusedFields

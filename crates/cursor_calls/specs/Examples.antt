@@ -23,7 +23,7 @@ use Rattle.scan.specs.Order.{lesser}
 use Rattle.cursor_packet.specs.Frame.{frameChecks}
 use Rattle.cursor_packet.specs.Rtp.{rtpHolds}
 use Rattle.cursor_packet.specs.Position.{positionChecks, positionAt}
-use Rattle.cursor_packet.specs.Unused.{DifferOnlyThere, WrongHeader}
+use Rattle.cursor_packet.specs.UnusedFields.{SameButUnused, WrongRtp}
 use Rattle.cursor_packet.specs.Examples.{filled, beginning}
 use Rattle.cursor_fragment.specs.Fragment.{takesType, headerLength, imageData, offsetBits, placeOf, outside, fragmentFrame, fragmentChecks, fragmentAs}
 use Rattle.cursor_fragment.specs.Start.{startOf, noStart, startIn, sameStart}
@@ -72,7 +72,7 @@ records-stay = refl
 
 -- PositionUnusedIgnored: P9, and P9 so filled, which is taken as P9 is
 pub position-filled
-    : DifferOnlyThere position9 (beginning 0x80 0)
+    : SameButUnused position9 (beginning 0x80 0)
     × (cursorPosition (1 ∷ 4 ∷ 0 ∷ 0 ∷ 0 ∷ 0 ∷ 0 ∷ []) (beginning 0x80 0)
     ≡ afterPosition (record { status = 0; place = 0 }) (1 ∷ 5 ∷ 0 ∷ 0xfe ∷ 0xff ∷ 0x0a ∷ 0 ∷ []))
 unfolding cursorPosition positioned positionStatus movedTo isNewer distance positionChecks positionAt firstOf frameChecks rtpHolds numberIn numberAt bytesIn laid splice signed unsigned pointerOf pointerBytes
@@ -83,14 +83,14 @@ lastFilled = filled 32 ++ (3 ∷ 0 ∷ 14 ∷ 0 ∷ 0 ∷ 0 ∷ 4 ∷ 0 ∷ 9 �
 
 -- StoreUnusedIgnored: the same continuation, and the same so filled
 pub store-filled
-    : DifferOnlyThere (last 32) lastFilled
+    : SameButUnused (last 32) lastFilled
     × (called lent lastFilled ≡ afterStore (record { status = 0; place = 0 }) (lent .pointer) (lent .picture) (lent .image) (0 ∷ 0 ∷ 0 ∷ 1 ∷ 7 ∷ []))
 unfolding cursorStore recordsWhole pointerLeft pictureLeft samePicture sameStart moves stored assembled assembledAs storeStatus storeChecks held hasRoom judging openedRules otherRules ofOpened startDiffers bytesDiffer conflictIn someBelow lesser isNewer distance openedFor clearedFor imageAfter marksAfter withStart pictureAfter pointerAfter splice fragmentChecks fragmentFrame firstOf frameChecks rtpHolds numberIn numberAt signed takesType headerLength imageData startOf noStart startIn offsetBits placeOf outside fragmentAs pictureOf pointerOf
 store-filled = (record { as-long = refl; before = refl; after = refl }, refl)
 
 -- PositionThreeExactly: the first byte is 81 hex
 pub position-three
-    : (pointerLength ≤ length (lent .pointer)) × WrongHeader (beginning 0x81 0)
+    : (pointerLength ≤ length (lent .pointer)) × WrongRtp (beginning 0x81 0)
     × (cursorPosition (lent .pointer) (beginning 0x81 0) ≡ afterPosition (record { status = 3; place = 0 }) (lent .pointer))
 unfolding cursorPosition positioned positionStatus movedTo isNewer distance positionChecks positionAt firstOf frameChecks rtpHolds numberIn numberAt signed pointerOf
 position-three = (omega arith, (omega arith, inl (λ e. omega arith)), refl)
@@ -98,7 +98,7 @@ position-three = (omega arith, (omega arith, inl (λ e. omega arith)), refl)
 -- StoreThreeExactly: the second byte is 1
 pub store-three
     : (recordsWhole (length (lent .pointer)) (length (lent .picture)) ≡ true)
-    × (held (pictureOf (lent .picture)) (length (lent .image)) (length (lent .marks)) ≡ true) × WrongHeader (beginning 0x80 1)
+    × (held (pictureOf (lent .picture)) (length (lent .image)) (length (lent .marks)) ≡ true) × WrongRtp (beginning 0x80 1)
     × (called lent (beginning 0x80 1) ≡ afterStore (record { status = 3; place = 0 }) (lent .pointer) (lent .picture) (lent .image) (lent .marks))
 unfolding cursorStore recordsWhole stored assembled assembledAs storeStatus storeChecks held hasRoom judging openedRules otherRules ofOpened fragmentChecks fragmentFrame firstOf frameChecks rtpHolds takesType headerLength imageData offsetBits placeOf outside fragmentAs numberIn numberAt signed pictureOf pointerOf
 store-three = (refl, refl, (omega arith, inr (λ e. omega arith)), refl)

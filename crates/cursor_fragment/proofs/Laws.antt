@@ -1,4 +1,4 @@
 pub mod Fragment
 pub mod Parsing
 pub mod Start
-pub mod Unused
+pub mod UnusedFields

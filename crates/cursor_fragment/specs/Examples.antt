@@ -12,7 +12,7 @@ use Rattle.wire.specs.Checks.{firstOf, accepted}
 use Rattle.cursor_packet.specs.Rtp.{rtpHolds}
 use Rattle.cursor_packet.specs.Frame.{frameChecks}
 use Rattle.cursor_packet.specs.Position.{positionAt}
-use Rattle.cursor_packet.specs.Unused.{DifferOnlyThere}
+use Rattle.cursor_packet.specs.UnusedFields.{SameButUnused}
 use Rattle.cursor_packet.specs.Examples.{rtp, filled}
 use Rattle.cursor_fragment.specs.declared.FragmentAnswer.the-variants as fragment
 use Rattle.cursor_fragment.specs.Fragment.{takesType, headerLength, imageData, offsetBits, placeOf, outside, fragmentFrame, fragmentChecks, fragmentAs, fragmentOf, fragmentStatus, dataOf, readFragment}
@@ -79,7 +79,7 @@ offset-kept = (refl, refl, refl)
 
 -- ReadAlike: the start, and the same with timestamp and SSRC filled (02 §2)
 pub filled-start
-    : DifferOnlyThere start (filled 5 ++ drop 12 start)
+    : SameButUnused start (filled 5 ++ drop 12 start)
     × (readFragment (filled 5 ++ drop 12 start) ≡ readFragment start)
     × (dataOf (filled 5 ++ drop 12 start) ≡ 65 ∷ 66 ∷ [])
 unfolding readFragment fragmentAs startIn startOf placeOf fragmentFrame fragmentChecks firstOf frameChecks rtpHolds numberIn signed takesType headerLength imageData offsetBits outside

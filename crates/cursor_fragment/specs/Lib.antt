@@ -2,4 +2,4 @@ pub mod Examples
 pub mod Fragment
 pub mod Parsing
 pub mod Start
-pub mod Unused
+pub mod UnusedFields

@@ -1,3 +1,3 @@
 pub mod Position
 pub mod Rtp
-pub mod Unused
+pub mod UnusedFields

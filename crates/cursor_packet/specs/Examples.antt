@@ -14,7 +14,7 @@ use Rattle.wire.specs.Checks.{firstOf}
 use Rattle.cursor_packet.specs.Rtp.{rtpHolds}
 use Rattle.cursor_packet.specs.Frame.{frameChecks}
 use Rattle.cursor_packet.specs.Position.{positionChecks, positionAt, readPosition}
-use Rattle.cursor_packet.specs.Unused.{DifferOnlyThere, WrongHeader}
+use Rattle.cursor_packet.specs.UnusedFields.{SameButUnused, WrongRtp}
 
 -- an RTP header with a sequence number below 256
 abbrev pub rtp : ℕ → List ℕ
@@ -60,11 +60,11 @@ first-two = (refl, refl, refl, refl)
 -- The premises of the theorems are met.
 
 -- UnusedIgnored: whatever follows, the two headers make such packets
-pub only-there : (sequence : ℕ) (body : List ℕ) → DifferOnlyThere (rtp sequence ++ body) (filled sequence ++ body)
-only-there sequence body = record { as-long = refl; before = refl; after = refl }
+pub same-but-unused : (sequence : ℕ) (body : List ℕ) → SameButUnused (rtp sequence ++ body) (filled sequence ++ body)
+same-but-unused sequence body = record { as-long = refl; before = refl; after = refl }
 
 -- ThreeExactly: a packet with either byte wrong
-pub wrong-header : WrongHeader (beginning 0x81 0) × WrongHeader (beginning 0x80 1)
+pub wrong-header : WrongRtp (beginning 0x81 0) × WrongRtp (beginning 0x80 1)
 wrong-header = ((omega arith, inl (λ e. omega arith)), (omega arith, inr (λ e. omega arith)))
 
 -- Without a premise: NumberByChecks.

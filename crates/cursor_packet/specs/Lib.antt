@@ -2,4 +2,4 @@ pub mod Examples
 pub mod Frame
 pub mod Position
 pub mod Rtp
-pub mod Unused
+pub mod UnusedFields

@@ -1,2 +1,2 @@
 pub mod Pointer
-pub mod Unused
+pub mod UnusedFields

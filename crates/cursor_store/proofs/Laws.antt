@@ -4,4 +4,4 @@ pub mod DemandThree
 pub mod Examples
 pub mod Judging
 pub mod Storing
-pub mod Unused
+pub mod UnusedFields

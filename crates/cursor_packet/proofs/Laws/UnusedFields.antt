@@ -18,9 +18,9 @@ use Rattle.wire.proofs.Laws.Number.{number-same}
 use Rattle.cursor_packet.specs.Rtp.{rtpHolds}
 use Rattle.cursor_packet.specs.Frame.{typeOf, sizeOf, sizeChecks, frameChecks}
 use Rattle.cursor_packet.specs.Position.{positionChecks, positionAt, readPosition}
-use Rattle.cursor_packet.specs.Unused.{DifferOnlyThere, PartsAlike, UnusedIgnored, FirstTwoWrong, WrongHeader, ThreeExactly}
+use Rattle.cursor_packet.specs.UnusedFields.{SameButUnused, PartsAlike, UnusedIgnored, FirstTwoWrong, WrongRtp, ThreeExactly}
 
-module _ (a b : List ℕ) (d : DifferOnlyThere a b) where
+module _ (a b : List ℕ) (d : SameButUnused a b) where
   elsewhere : (i : ℕ) → (i < 4) ⊎ (12 ≤ i) → getD a i 0 ≡ getD b i 0
   elsewhere i (inl l) = sym (getD-take 4 a i 0 l) ∙ ap (λ (s : List ℕ). getD s i 0) (d .before) ∙ getD-take 4 b i 0 l
   elsewhere i (inr l) =

@@ -7,11 +7,11 @@ use mathlib.Core.Logic.{inl, inr}
 use native.Mathlib.Omega.{arith}
 use lib.Dec.{leb, eqb}
 use Rattle.wire.specs.Number.{number}
-use Rattle.cursor_packet.specs.Unused.{PartsAlike}
-use Rattle.cursor_packet.proofs.Laws.Unused.{unused-ignored, position-alike, read-position-alike}
+use Rattle.cursor_packet.specs.UnusedFields.{PartsAlike}
+use Rattle.cursor_packet.proofs.Laws.UnusedFields.{unused-ignored, position-alike, read-position-alike}
 use Rattle.cursor_fragment.specs.Fragment.{takesType, isStart, headerLength, imageData, offsetBits, isOutside, fragmentFrame, fragmentChecks, fragmentAs, fragmentOf, dataOf, readFragment}
 use Rattle.cursor_fragment.specs.Start.{startOf, startIn, startPosition}
-use Rattle.cursor_fragment.specs.Unused.{ReadAlike}
+use Rattle.cursor_fragment.specs.UnusedFields.{ReadAlike}
 
 module _ (a b : List ℕ) (r : PartsAlike a b) where
   after : (n at : ℕ) → 12 ≤ at → number n a at ≡ number n b at

@@ -12,11 +12,11 @@ use Rattle.wire.specs.Checks.{Check, refuse}
 use Rattle.wire.proofs.Laws.Bool.{by-test}
 use Rattle.wire.proofs.Laws.Checks.{lacking, first-gives, other-first}
 use Rattle.cursor_packet.specs.Frame.{typeOf}
-use Rattle.cursor_packet.specs.Unused.{PartsAlike, WrongHeader}
-use Rattle.cursor_packet.proofs.Laws.Unused.{three-exactly}
+use Rattle.cursor_packet.specs.UnusedFields.{PartsAlike, WrongRtp}
+use Rattle.cursor_packet.proofs.Laws.UnusedFields.{three-exactly}
 use Rattle.cursor_fragment.specs.declared.Fragment.{Fragment}
 use Rattle.cursor_fragment.specs.Fragment.{takesType, isStart, sizeFits, isOutside, fragmentFrame, fragmentChecks, fragmentOf, dataOf}
-use Rattle.cursor_fragment.proofs.Laws.Unused.{starts-alike, checks-alike, fragment-alike, data-of-alike, start-position-alike}
+use Rattle.cursor_fragment.proofs.Laws.UnusedFields.{starts-alike, checks-alike, fragment-alike, data-of-alike, start-position-alike}
 use Rattle.cursor_pointer.specs.declared.Pointer.{Pointer}
 use Rattle.cursor_picture.specs.declared.Picture.{Picture}
 use Rattle.cursor_picture.specs.Picture.{held}
@@ -42,7 +42,7 @@ no-three q f ds image marks =
 
 pub three-at-store
     : (q : Picture) (packet image marks : List ℕ)
-    → (numberOf (storeStatus q packet image marks) ≡ 3) ↔ ((held q (length image) (length marks) ≡ true) × WrongHeader packet)
+    → (numberOf (storeStatus q packet image marks) ≡ 3) ↔ ((held q (length image) (length marks) ≡ true) × WrongRtp packet)
 unfolding storeStatus storeChecks fragmentChecks fragmentFrame lacking
 three-at-store q packet image marks =
     let own = fragmentChecks (isStart packet) packet in

@@ -12,8 +12,8 @@ use Rattle.wire.specs.Checks.{refuse}
 use Rattle.wire.proofs.Laws.Checks.{lacking, first-gives}
 use Rattle.cursor_packet.specs.Frame.{typeOf, sizeOf}
 use Rattle.cursor_packet.specs.Position.{positionChecks, positionOf}
-use Rattle.cursor_packet.specs.Unused.{PartsAlike, WrongHeader}
-use Rattle.cursor_packet.proofs.Laws.Unused.{three-exactly, position-checks-alike, position-alike}
+use Rattle.cursor_packet.specs.UnusedFields.{PartsAlike, WrongRtp}
+use Rattle.cursor_packet.proofs.Laws.UnusedFields.{three-exactly, position-checks-alike, position-alike}
 use Rattle.cursor_pointer.specs.declared.Pointer.{Pointer}
 use Rattle.cursor_pointer.specs.Pointer.{pointerMoves, positionStatus, positioned}
 
@@ -21,7 +21,7 @@ pub positioned-alike : (p : Pointer) (a b : List ℕ) → PartsAlike a b → pos
 unfolding positioned positionStatus
 positioned-alike p a b r = rw (position-checks-alike a b r, position-alike a b r 15 17 (omega arith) (omega arith))
 
-pub three-at-position : (p : Pointer) (packet : List ℕ) → (numberOf (positionStatus p packet) ≡ 3) ↔ WrongHeader packet
+pub three-at-position : (p : Pointer) (packet : List ℕ) → (numberOf (positionStatus p packet) ≡ 3) ↔ WrongRtp packet
 unfolding positionStatus positionChecks lacking
 three-at-position p packet =
     Iff·trans

@@ -1,9 +1,9 @@
--- 02 §2 over the reading of a packet, whatever its type. The proof stands in proofs/Laws/Unused.antt. Assumes nothing.
+-- 02 §2 over the reading of a packet, whatever its type. The proof stands in proofs/Laws/UnusedFields.antt. Assumes nothing.
 use Prim.Native.Nat.{ℕ}
 use mathlib.Core.Path.{_≡_}
 use mathlib.Core.List.{List}
 use Rattle.cursor_packet.specs.Position.{readPosition}
-use Rattle.cursor_packet.specs.Unused.{DifferOnlyThere}
+use Rattle.cursor_packet.specs.UnusedFields.{SameButUnused}
 use Rattle.cursor_fragment.specs.Fragment.{dataOf, readFragment}
 use Rattle.cursor_fragment.specs.Start.{startPosition}
 
@@ -16,4 +16,4 @@ pub record SameRead (a b : List ℕ) : Type 0 where
 
 -- Packets that differ only in timestamp and SSRC are read alike.
 abbrev pub ReadAlike : Type 0
-ReadAlike = (a b : List ℕ) → DifferOnlyThere a b → SameRead a b
+ReadAlike = (a b : List ℕ) → SameButUnused a b → SameRead a b

@@ -8,17 +8,17 @@ use borrow.Author.Tests.{leb-true, le-leb}
 use lib.Dec.{leb}
 use lib.ListN.{length}
 use Rattle.wire.proofs.Laws.Bool.{impossible}
-use Rattle.cursor_packet.specs.Unused.{WrongHeader}
-use Rattle.cursor_packet.proofs.Laws.Unused.{unused-ignored}
-use Rattle.cursor_pointer.proofs.Laws.Unused.{positioned-alike, three-at-position}
+use Rattle.cursor_packet.specs.UnusedFields.{WrongRtp}
+use Rattle.cursor_packet.proofs.Laws.UnusedFields.{unused-ignored}
+use Rattle.cursor_pointer.proofs.Laws.UnusedFields.{positioned-alike, three-at-position}
 use Rattle.cursor_store.specs.declared.storing.StoreAnswer.{StoreAnswer}
 use Rattle.cursor_store.specs.declared.storing.StoreAnswer.the-variants as store
-use Rattle.cursor_store.proofs.Laws.Unused.{moves-alike, stored-alike, three-at-store}
+use Rattle.cursor_store.proofs.Laws.UnusedFields.{moves-alike, stored-alike, three-at-store}
 use Rattle.cursor_layout.specs.PointerLayout.{pointerLength, pointerOf}
 use Rattle.cursor_layout.specs.PictureLayout.{pictureOf}
 use Rattle.cursor_calls.specs.CursorCalls.{cursorPosition, recordsWhole, pointerLeft, storeAnswered, cursorStore}
 use Rattle.cursor_calls.proofs.Laws.CursorCalls.{position-number, store-number}
-use Rattle.cursor_calls.specs.Unused.{PositionUnusedIgnored, StoreUnusedIgnored, PositionThreeExactly, StoreThreeExactly}
+use Rattle.cursor_calls.specs.UnusedFields.{PositionUnusedIgnored, StoreUnusedIgnored, PositionThreeExactly, StoreThreeExactly}
 
 pub position-unused-ignored : PositionUnusedIgnored
 unfolding cursorPosition
@@ -42,7 +42,7 @@ given-exactly false n C g = (λ e. impossible (cc), λ h. absurd (false≢true (
 
 pub position-three-exactly : PositionThreeExactly
 position-three-exactly ps packet =
-    Iff·trans (rw (position-number ps packet) (given-exactly (leb pointerLength (length ps)) _ (WrongHeader packet) (three-at-position (pointerOf ps) packet)))
+    Iff·trans (rw (position-number ps packet) (given-exactly (leb pointerLength (length ps)) _ (WrongRtp packet) (three-at-position (pointerOf ps) packet)))
     (Iff·and (leb-true pointerLength (length ps), le-leb pointerLength (length ps)) Iff·rfl)
 
 pub store-three-exactly : StoreThreeExactly
