@@ -2,7 +2,7 @@
 
 mod common;
 
-use common::{continuation, outcome, packet, position, start, unused_fields, with_unused, START};
+use common::{continuation, outcome, packet, position, start, START};
 use reference::cursor::{self, Pointer};
 
 fn refusal(pointer: Pointer, packet: &[u8]) -> u8 {
@@ -30,66 +30,6 @@ fn fewer_than_15_bytes_is_1() {
         assert_eq!(fresh(&whole[..length]), 1);
     }
     assert_eq!(fresh(&[0xFF; 14]), 1, "1 comes before 3");
-}
-
-/// 02 §2: of the RTP header the first two bytes are judged.
-#[test]
-fn every_other_pair_of_first_bytes_is_3() {
-    for pair in 0..=u16::MAX {
-        let mut bytes = position(1, 2, 3);
-        bytes[..2].copy_from_slice(&pair.to_be_bytes());
-        let right = pair == 0x8000;
-        assert_eq!(fresh(&bytes), if right { 0 } else { 3 }, "{pair:04X}");
-        assert_eq!(fresh(&bytes[..14]), 1, "1 comes before 3");
-        bytes[12] = 9;
-        assert_eq!(fresh(&bytes), if right { 4 } else { 3 }, "3 comes before 4");
-    }
-}
-
-/// 02 §2: two packets that differ only in timestamp and SSRC give the same answer and state.
-#[test]
-fn timestamp_and_ssrc_are_ignored() {
-    let pointer = Pointer { known: true, last: 5, x: 1, y: 2 };
-    let newer = position(6, -2, 10);
-    let with = |place: usize, byte| {
-        let mut bytes = newer.clone();
-        bytes[place] = byte;
-        bytes
-    };
-    for (packet, number) in [
-        (newer.clone(), 0),
-        (newer[..7].to_vec(), 1),
-        (newer[..14].to_vec(), 1),
-        (newer[..18].to_vec(), 1),
-        (with(14, 8), 2),
-        ([&newer[..], &[0]].concat(), 2),
-        (with(0, 0x81), 3),
-        (with(1, 1), 3),
-        (with(12, 2), 4),
-        (with(3, 5), 11),
-    ] {
-        let answer = cursor::position(pointer, &packet);
-        assert_eq!(outcome(answer), (number, 0));
-        for unused in unused_fields() {
-            let other = with_unused(&packet, unused);
-            assert_eq!(cursor::position(pointer, &other), answer, "{other:02X?}");
-        }
-    }
-}
-
-#[test]
-fn the_sequence_number_stands_in_bytes_2_and_3() {
-    let pointer = Pointer { known: true, last: 40_000, x: 1, y: 2 };
-    for sequence in 0..=u16::MAX {
-        // Where timestamp and SSRC have the last sequence number, and where they have the next one.
-        for unused in [0x9C40_9C40_9C40_9C40u64, 0x9C41_9C41_9C41_9C41] {
-            let packet = with_unused(&position(sequence, 3, 4), unused.to_be_bytes());
-            let moved = Pointer { known: true, last: sequence, x: 3, y: 4 };
-            assert_eq!(cursor::position(Pointer::fresh(), &packet), Ok(moved));
-            let newer = (40_001..=65_535).contains(&sequence) || sequence <= 7_231;
-            assert_eq!(refusal(pointer, &packet), if newer { 0 } else { 11 }, "{sequence}");
-        }
-    }
 }
 
 #[test]

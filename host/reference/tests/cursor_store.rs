@@ -2,60 +2,9 @@
 
 mod common;
 
-use common::{continuation, packet, position, start, unused_fields, with_unused, Start, START};
-use reference::cursor::{self, Picture, Pointer, LARGEST_PICTURE};
-
-/// Records with the picture and marks that are lent.
-#[derive(Clone, Debug, PartialEq, Eq)]
-struct Sink {
-    pointer: Pointer,
-    record: Picture,
-    picture: Vec<u8>,
-    marks: Vec<u8>,
-}
-
-impl Sink {
-    fn fresh(length: usize) -> Self {
-        Sink {
-            pointer: Pointer::fresh(),
-            record: Picture::fresh(),
-            picture: vec![0xEE; length],
-            marks: vec![0x77; length],
-        }
-    }
-
-    /// Takes a packet; checks that a refusal has place 0 and changes nothing.
-    fn store(&mut self, packet: &[u8]) -> u8 {
-        let before = self.clone();
-        let answer =
-            cursor::store(self.pointer, self.record, packet, &mut self.picture, &mut self.marks);
-        match answer {
-            Ok((pointer, record)) => {
-                self.pointer = pointer;
-                self.record = record;
-                0
-            }
-            Err(refused) => {
-                assert_eq!(*self, before);
-                assert_eq!(refused.place, 0);
-                refused.number.number()
-            }
-        }
-    }
-
-    fn complete(&self) -> Result<bool, u8> {
-        cursor::complete(self.record, &self.picture, &self.marks)
-            .map_err(|refused| refused.number.number())
-    }
-}
-
-/// A sink with picture 1 of total 8 opened by sequence number 100, places 2 to 5 filled with
-/// `C`, `D`, `E`, `F` and no start seen.
-fn opened() -> Sink {
-    let mut sink = Sink::fresh(10);
-    assert_eq!(sink.store(&continuation(100, 1, 8, 2, b"CDEF")), 0);
-    sink
-}
+use common::sink::{opened, Sink};
+use common::{continuation, packet, position, start, Start, START};
+use reference::cursor::{Picture, Pointer, LARGEST_PICTURE};
 
 #[test]
 fn a_continuation_opens_and_stores() {
@@ -116,78 +65,6 @@ fn refusals_1_to_4() {
         assert_eq!(Sink::fresh(10).store(&bytes), 4);
     }
     assert_eq!(Sink::fresh(10).store(&position(1, 2, 3)), 4);
-}
-
-/// 02 §2: of the RTP header the first two bytes are judged.
-#[test]
-fn every_other_pair_of_first_bytes_is_3() {
-    for whole in [start(1, 1, 8, START, b"AB"), continuation(1, 1, 8, 0, b"AB")] {
-        for pair in 0..=u16::MAX {
-            let mut bytes = whole.clone();
-            bytes[..2].copy_from_slice(&pair.to_be_bytes());
-            let right = pair == 0x8000;
-            assert_eq!(Sink::fresh(10).store(&bytes), if right { 0 } else { 3 }, "{pair:04X}");
-            assert_eq!(Sink::fresh(10).store(&bytes[..14]), 1, "1 comes before 3");
-            bytes[12] = 1;
-            assert_eq!(Sink::fresh(10).store(&bytes), if right { 4 } else { 3 });
-        }
-    }
-}
-
-/// 02 §2: two packets that differ only in timestamp and SSRC give the same answer and state.
-#[test]
-fn timestamp_and_ssrc_are_ignored() {
-    let sink = opened();
-    let mut not_held = opened();
-    not_held.record.total = 11;
-    let adds = continuation(101, 1, 8, 5, b"FG");
-    let with = |place: usize, byte| {
-        let mut bytes = adds.clone();
-        bytes[place] = byte;
-        bytes
-    };
-    for (before, packet, number) in [
-        (&sink, adds.clone(), 0),
-        (&sink, start(101, 1, 8, START, b"AB"), 0),
-        (&sink, start(101, 2, 4, START, b"AB"), 0),
-        (&sink, continuation(101, 2, 4, 1, b"B"), 0),
-        (&sink, adds[..7].to_vec(), 1),
-        (&sink, adds[..14].to_vec(), 1),
-        (&sink, adds[..20].to_vec(), 1),
-        (&sink, with(14, 12), 2),
-        (&sink, [&adds[..], &[0]].concat(), 2),
-        (&sink, with(0, 0x81), 3),
-        (&sink, with(1, 1), 3),
-        (&sink, with(12, 1), 4),
-        (&sink, continuation(101, 1, 8, -1, b""), 9),
-        (&sink, continuation(101, 2, 11, 0, b""), 10),
-        (&sink, start(100, 2, 4, START, b"AB"), 11),
-        (&sink, start(101, 1, 9, START, b"AB"), 12),
-        (&sink, continuation(101, 1, 8, 5, b"XG"), 13),
-        (&not_held, adds.clone(), 17),
-    ] {
-        let mut left = before.clone();
-        assert_eq!(left.store(&packet), number);
-        for unused in unused_fields() {
-            let other = with_unused(&packet, unused);
-            let mut sink = before.clone();
-            assert_eq!((sink.store(&other), &sink), (number, &left), "{other:02X?}");
-        }
-    }
-}
-
-#[test]
-fn the_sequence_number_stands_in_bytes_2_and_3() {
-    // The next sequence number after the opening one stands in timestamp and SSRC.
-    let unused = [0, 101, 0, 101, 0, 101, 0, 101];
-    for sequence in 0..=u16::MAX {
-        let mut sink = Sink::fresh(10);
-        assert_eq!(sink.store(&with_unused(&start(sequence, 2, 8, START, b"AB"), unused)), 0);
-        assert_eq!((sink.record.opening_sequence, sink.pointer.last), (sequence, sequence));
-        let newer = (101..=32_867).contains(&sequence);
-        let answer = opened().store(&with_unused(&continuation(sequence, 2, 8, 0, b"x"), unused));
-        assert_eq!(answer, if newer { 0 } else { 11 }, "{sequence}");
-    }
 }
 
 #[test]

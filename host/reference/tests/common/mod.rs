@@ -1,6 +1,8 @@
 //! What several tests share: builders of messages and packets, and a small random generator.
 #![allow(dead_code)]
 
+pub mod sink;
+
 use reference::{Refusal, Refused};
 
 /// Message A of paper 01, "Proved table of small examples".
