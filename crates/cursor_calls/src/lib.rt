@@ -1,4 +1,6 @@
 // The calls of the cursor stream over lent records. Crate ashlarsilk exports each, and says there in words what a host gets.
+#![tactic(auto)]
+
 ghost use Rattle.std.specs.Prelude.{◌≡◌, length};
 ghost use Rattle.cursor_pointer.specs.Pointer.{fresh_pointer};
 ghost use Rattle.cursor_picture.specs.Picture.{fresh_picture};

@@ -10,6 +10,8 @@
 //      26      2  HotSpotXPos
 //      28      2  HotSpotYPos
 //      30         ImageData, at offset 0
+#![tactic(auto)]
+
 pub mod continuation;
 pub mod start;
 

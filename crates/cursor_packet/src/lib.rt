@@ -7,6 +7,8 @@
 //      15         the fields of the packet's type
 //
 // Positions are read here, starts and continuations in crate cursor_fragment.
+#![tactic(auto)]
+
 pub mod frame;
 pub mod position;
 pub mod rtp;

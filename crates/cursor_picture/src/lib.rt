@@ -1,6 +1,8 @@
 // The record of the opened picture, and in `completeness` the question whether it is complete. Beside the record the host lends the picture
 // itself, the bytes of the cursor image, and marks, one byte a place: zero means empty, else filled. The places of a picture are 0 to its
 // total − 1; lent bytes and marks beyond them are no places of it.
+#![tactic(auto)]
+
 pub mod completeness;
 
 ghost use Rattle.std.specs.Prelude.{◌≡◌};

@@ -1,4 +1,6 @@
 // The pointer's position, and the call for position packets.
+#![tactic(auto)]
+
 ghost use Rattle.std.specs.Prelude.{◌≡◌};
 ghost use Rattle.cursor_pointer.specs.Pointer.{fresh_pointer, moved_to, moved_by, positioned};
 

@@ -1,4 +1,6 @@
 // What the calls for hosts answer: the status (0 accepted, else the refusal number of 01), and what belongs to it.
+#![tactic(auto)]
+
 ghost use Rattle.std.specs.Prelude.{◌≡◌, length, replicate};
 ghost use Rattle.wire.specs.Laid.{laid};
 ghost use Rattle.host_answers.specs.Answers.{accepted, refused, not_written, written_of, not_answered};

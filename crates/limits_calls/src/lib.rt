@@ -1,4 +1,6 @@
 // The calls of the cursor limits value over lent records. Crate ashlarsilk exports each, and says there in words what a host gets.
+#![tactic(auto)]
+
 ghost use Rattle.std.specs.Prelude.{◌≡◌};
 ghost use Rattle.limits_calls.specs.LimitsCalls.{read_answer, read_record, limits_written, limits_output};
 

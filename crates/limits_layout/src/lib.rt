@@ -7,6 +7,8 @@
 //       2      2  the largest width
 //       4      2  the largest height
 //       6      2  the UDP port
+#![tactic(auto)]
+
 ghost use Rattle.std.specs.Prelude.{◌≡◌};
 ghost use Rattle.wire.specs.Laid.{laid};
 ghost use Rattle.limits_layout.specs.LimitsLayout.{xor_byte, xor_of, number_bytes, limits_bytes, limits_in};

@@ -1,6 +1,8 @@
 // Lists a recording of connection messages, the file that the argument names, or standard input for `-`: a line a message, with its place in
 // the file, its command and its size; at the end the number of bytes, as `end 61`; at the first refusal its place and number, as
 // `61 refused 1`, and nothing more. A second argument names a file to which the verdict is written, since a program has no exit status.
+#![tactic(auto)]
+
 mod buffer;
 mod text;
 

@@ -1,4 +1,6 @@
 // The calls of connection messages over lent records. Crate ashlarsilk exports each, and says there in words what a host gets.
+#![tactic(auto)]
+
 ghost use Rattle.std.specs.Prelude.{◌≡◌};
 ghost use Rattle.message_calls.specs.MessageCalls.{read_answer, read_record, message_written, message_output, number_answer};
 ghost use Rattle.message_calls.specs.MessageCalls.{port_answer, options_answer, source_answer, source_lent};

@@ -10,6 +10,8 @@
 //      37      9  Security Options
 //      46      9  PIN Challenge
 //      55      9  PIN Response Reason
+#![tactic(auto)]
+
 ghost use Rattle.std.specs.Prelude.{◌≡◌, ◌+◌, ◌≤◌, length};
 ghost use Rattle.wire.specs.Splice.{splice};
 ghost use Rattle.wire.specs.Laid.{laid};

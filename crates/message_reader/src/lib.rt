@@ -1,5 +1,7 @@
 // Reads a connection message: a header, then TLVs in any order, in one walk (01, "Connection message"). No value is copied: the record has
 // its place and length.
+#![tactic(auto)]
+
 pub mod header;
 mod tlv;
 pub mod walk;

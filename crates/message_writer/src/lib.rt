@@ -1,4 +1,6 @@
 // Writes a connection message from its record: the header, then its TLVs by rising type.
+#![tactic(auto)]
+
 ghost use Rattle.std.specs.Prelude.{◌≡◌, true, cond, ◌+◌, ◌≤◌, length};
 ghost use Rattle.wire.specs.Splice.{splice};
 ghost use Rattle.wire.specs.Below.{all_below};

@@ -1,4 +1,6 @@
 // Text and numbers on standard output.
+#![tactic(auto)]
+
 use libc::STDOUT_FILENO;
 use wire::signed;
 

@@ -2,6 +2,8 @@
 // file of frames of 40 bytes: the call (1 position, 2 store, any other the completeness question), the packet's length, the packet, and bytes
 // that are not looked at. The picture and its marks have 40 places. A line for each 16 calls: their numbers (for the completeness question 100
 // no, 101 yes), then a sum over both records, the picture and the marks.
+#![tactic(auto)]
+
 ghost use Rattle.std.specs.Prelude.{◌<◌, ◌≤◌};
 
 use cursor_layout::{picture_layout, pointer_layout};

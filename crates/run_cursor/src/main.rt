@@ -1,6 +1,8 @@
 // Runs the calls of the cursor stream as a host does, on records that it lends, and prints a line a call: the call, the paper's number of its
 // status, and what then stands in the lent records, in five bytes of the picture and in the marks beside them. The packets are P9 and P10 of 01,
 // those of 003 section 4, and orders, repeats and refusals of a small picture.
+#![tactic(auto)]
+
 use cursor_layout::{picture_layout, pointer_layout};
 use scan::bytes;
 use wire::number;

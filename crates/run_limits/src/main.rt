@@ -1,4 +1,6 @@
 // Writes each of the 65,536 numbers of each field and reads it back; then reads spellings, good and bad, and shows what they mean.
+#![tactic(auto)]
+
 ghost use Rattle.std.specs.Prelude.{◌≤◌};
 
 use cursor_limits::value::{Answer, Limits, Value, Xor};

@@ -1,6 +1,8 @@
 // Reads cursor packets by value, a line a reader under the packet's bytes: a record, or a refusal with its number and byte place (01). The
 // readers are those of positions and of fragments, and the calls for positions and for fragments, on fresh records and on a picture and marks of
 // eight places.
+#![tactic(auto)]
+
 use cursor_fragment::start::Start;
 use cursor_fragment::{Fragment, FragmentAnswer};
 use cursor_packet::position;

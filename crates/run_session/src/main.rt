@@ -2,6 +2,7 @@
 // (none, the kept one, another), the kept options (without and with the PIN option) and the options that the event brings. Each step is
 // made in place, on a session record that is lent. A line each:
 //     STATE EVENT KEPT CARRIED OPTIONS BROUGHT: STATUS CHECK STATE OPTIONS FIRST-BYTE-OF-KEPT-ID-OR-0
+#![tactic(auto)]
 
 use message_rules::accessors::SourceId;
 use session_step::in_place;

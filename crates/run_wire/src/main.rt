@@ -1,5 +1,7 @@
 // Runs the calls of `wire` and prints what they answer: numbers read at each place of seven bytes, numbers written at each place of four,
 // how many of all sequence numbers are newer than some, and the number of each status.
+#![tactic(auto)]
+
 use wire::status::Status;
 use wire::{number, sequence, signed, status};
 

@@ -1,4 +1,6 @@
 // The loops over an image and its marks, in shapes that compile to vector instructions: each proved once.
+#![tactic(auto)]
+
 pub mod bytes;
 pub mod conflict;
 pub mod empty;

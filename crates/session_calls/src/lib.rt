@@ -1,4 +1,6 @@
 // The calls of the session over lent records. Crate ashlarsilk exports each, and says there in words what a host gets.
+#![tactic(auto)]
+
 ghost use Rattle.std.specs.Prelude.{◌≡◌, length};
 ghost use Rattle.session_table.specs.Record.{fresh_session};
 ghost use Rattle.wire.specs.Laid.{laid};

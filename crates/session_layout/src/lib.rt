@@ -5,6 +5,8 @@
 //       1      1  the options
 //       2      1  whether a Source ID is kept
 //       3     16  the Source ID; where none is kept, not looked at
+#![tactic(auto)]
+
 ghost use Rattle.std.specs.Prelude.{◌≡◌, ◌≤◌, length};
 ghost use Rattle.wire.specs.Splice.{splice};
 ghost use Rattle.wire.specs.Laid.{laid};

@@ -6,6 +6,8 @@
 // then the limits values and the cursor packets of 003 section 4, and positions for 02 §2. Numbers are decimal. ID is 32 hexadecimal digits, or
 // `-` where the message has no Source ID; the last word of a message is `same` where writing the record gives the message's bytes back, and
 // `other` where not.
+#![tactic(auto)]
+
 mod limits_line;
 mod messages;
 mod packets;

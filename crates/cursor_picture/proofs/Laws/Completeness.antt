@@ -20,9 +20,9 @@ module _ (marks : List ℕ) (total : ℕ) where
   same_mark : (i : ℕ) → i < total → empty_at (take total marks) i ≡ empty_at marks i
   same_mark i l = ap (λ (m : ℕ). eqb m 0) (get_or-take total marks i 0 l)
 
-  pub all_filled : total ≤ length marks → ((i : ℕ) → i < total → filled_at marks i ≡ true) → all_filled marks total ≡ true
+  pub all_filled_lem : total ≤ length marks → ((i : ℕ) → i < total → filled_at marks i ≡ true) → all_filled marks total ≡ true
   unfolding first_empty_of
-  all_filled fits h =
+  all_filled_lem fits h =
       let long = length-take-le total marks fits in
       eq-eqb _ total
       (first_none (take total marks)

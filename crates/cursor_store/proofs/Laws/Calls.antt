@@ -37,14 +37,14 @@ module _ (s : State) (packet : List ℕ) where
   not_accepted : accepted status_of ≡ false → is_accepted (answered s packet).answer ≡ false
   not_accepted e = rw (stored_refused s.pointer s.picture packet s.image s.marks e) e
 
-  is_accepted : accepted status_of ≡ true → is_accepted (answered s packet).answer ≡ true
-  is_accepted e = rw (stored-accepted s.pointer s.picture packet s.image s.marks e)
+  is_accepted_lem : accepted status_of ≡ true → is_accepted (answered s packet).answer ≡ true
+  is_accepted_lem e = rw (stored-accepted s.pointer s.picture packet s.image s.marks e)
 
   same_verdict : accepted status_of ≡ is_accepted (answered s packet).answer
   same_verdict = go (accepted status_of) refl
     where
       go : (b : Bool) → accepted status_of ≡ b → b ≡ is_accepted (answered s packet).answer
-      go true e = sym (is_accepted e)
+      go true e = sym (is_accepted_lem e)
       go false e = sym (not_accepted e)
 
 pub number_by_checks : NumberByChecks

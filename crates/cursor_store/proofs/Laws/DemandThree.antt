@@ -29,7 +29,7 @@ use Rattle.cursor_picture.specs.declared.Picture.{Picture}
 use Rattle.cursor_picture.specs.declared.completeness.CompleteAnswer.TheVariants.{Yes, No}
 use Rattle.cursor_picture.specs.Picture.{has_room, held}
 use Rattle.cursor_picture.specs.Completeness.{all_filled, completeness}
-use Rattle.cursor_picture.proofs.Laws.Completeness.{all_filled, filled_all}
+use Rattle.cursor_picture.proofs.Laws.Completeness.{all_filled_lem, filled_all}
 use Rattle.cursor_picture.proofs.Laws.Picture.{room_says, held_says}
 use Rattle.cursor_store.specs.declared.storing.StoreAnswer.TheVariants.{Accepted}
 use Rattle.cursor_store.specs.Judging.{of_opened, start_differs, bytes_differ, opened_rules, judging}
@@ -152,8 +152,8 @@ module _ (w : Whole) (s : State) (a : Start) (o : OpenedAs by_value w s) (u : s.
       (ap accepted (store-status s.picture packet s.image s.marks) ∙ simp (o.clear, c.well_formed, judged))
       ∙ simp is_opened
 
-  is_accepted : is_accepted (answered s packet).answer ≡ true
-  is_accepted = rw answer-is
+  is_accepted_lem : is_accepted (answered s packet).answer ≡ true
+  is_accepted_lem = rw answer-is
 
   next_is : next s packet ≡ then_is
   unfolding next
@@ -296,7 +296,7 @@ ends w a s (fragment packet ∷ l) o u t v =
     let s' = next s packet in
     let r = ends w a s' l (still_opened w a s (covers packet) (is_start packet) s' g o) (still_agreeing w a s (covers packet) (is_start packet) s' g u) t.1 v.1 in
     record {
-      all_accepted = (is_accepted w s a o u packet t.0 v.0, r.all_accepted);
+      all_accepted = (is_accepted_lem w s a o u packet t.0 v.0, r.all_accepted);
       grown = more_grown w a s s' (run by_value s' l) (covers packet) (covered l) (is_start packet) (started l) g r.grown;
     }
 ends w a s (other packet ∷ l) o u t v =
@@ -431,7 +431,7 @@ module _ (w : Whole) (s : State) (o : OpenedAs by_value w s) where
         λ h.
             let y = yes_is s.picture.seen (all_filled s.marks (total_of w)) (sym completeness_is ∙ h) in
             (y.0, filled_all s.marks (total_of w) y.1),
-        λ h. completeness_is ∙ simp (h.0, all_filled s.marks (total_of w) r.1 h.1),
+        λ h. completeness_is ∙ simp (h.0, all_filled_lem s.marks (total_of w) r.1 h.1),
       )
 
 pub demand_three : DemandThree by_value

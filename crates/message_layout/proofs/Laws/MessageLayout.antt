@@ -65,9 +65,9 @@ module _ (at : ℕ) (ds : List ℕ) (f : Field) {s : List ℕ} (b : Begins (at +
   before_field : Begins at ds s
   before_field = before_part at ds 9 (field_bytes f) (length_field f) b
 
-  field_in : Fits f → field_in s at ≡ f
+  field_in_lem : Fits f → field_in s at ≡ f
   unfolding field_bytes field_in
-  field_in held =
+  field_in_lem held =
       let p = bytes 1 (flag f.present) in
       let a = bytes 4 f.at in
       let n = bytes 4 f.len in
@@ -103,13 +103,13 @@ message_back m xs room small held =
     let b1 : Begins 1 d1 s = before_field 1 d1 m.friendly_name b2 in
     rw (
       number_in 0 [] 1 m.command small b1,
-      field_in 1 d1 m.friendly_name b2 (held 0),
-      field_in 10 d2 m.rtsp_port b3 (held 2),
-      field_in 19 d3 m.source_id b4 (held 3),
-      field_in 28 d4 m.security_token b5 (held 4),
-      field_in 37 d5 m.security_options b6 (held 5),
-      field_in 46 d6 m.pin_challenge b7 (held 6),
-      field_in 55 d7 m.pin_reason b8 (held 7),
+      field_in_lem 1 d1 m.friendly_name b2 (held 0),
+      field_in_lem 10 d2 m.rtsp_port b3 (held 2),
+      field_in_lem 19 d3 m.source_id b4 (held 3),
+      field_in_lem 28 d4 m.security_token b5 (held 4),
+      field_in_lem 37 d5 m.security_options b6 (held 5),
+      field_in_lem 46 d6 m.pin_challenge b7 (held 6),
+      field_in_lem 55 d7 m.pin_reason b8 (held 7),
     )
 
 pub accepted_back : AcceptedBack

@@ -30,7 +30,7 @@ use Rattle.wire.proofs.Laws.Checks.{by-check, by-last-check}
 use Rattle.wire.proofs.Laws.Number.{number_small}
 use Rattle.wire.proofs.Laws.Status.{same_status}
 use Rattle.message_rules.proofs.Laws.Rules.{type_small}
-use Rattle.wire.proofs.Laws.Below.{below_all, all_below, one_below, one_fails}
+use Rattle.wire.proofs.Laws.Below.{below_all, all_below_lem, one_below, one_fails}
 
 -- ---- one TLV
 
@@ -289,7 +289,7 @@ unfolding last_of is_complete
 accepts s m k =
     let b = reached-rest s (length s) m k.headed.four k.reached in
     headed_read s k.headed ∙ sym b.3 ∙ sym (tlvs_end b.0 s (length s) m (omega arith))
-    ∙ simp (all_below (has_needed m) 8 (λ t h. needed_has m t (k.complete t)))
+    ∙ simp (all_below_lem (has_needed m) 8 (λ t h. needed_has m t (k.complete t)))
 
 -- the number and the place of a refusal tell the answer
 numbered_back : (a : Answer) (st : Status) (place : ℕ) → accepted st ≡ false → numbered a ≡ refused_as st place → a ≡ answer.Refused st place

@@ -49,16 +49,16 @@ pub bounded_need : BoundedNeed
 unfolding BoundedNeed needed_of
 bounded_need s b = (need s (read_size s) refl).1 b
 
-pub line_of : (s : List ℕ) → 0 < length s → line_of s ≡ shown (needed_of s) (read_message (take (needed_of s) s))
+pub line_of_lem : (s : List ℕ) → 0 < length s → line_of s ≡ shown (needed_of s) (read_message (take (needed_of s) s))
 unfolding line_of
-line_of s h = simp (ne_eqb (length s) 0 (λ e. omega arith))
+line_of_lem s h = simp (ne_eqb (length s) 0 (λ e. omega arith))
 
 pub read_so_far_decides : ReadSoFarDecides
 unfolding ReadSoFarDecides needed_of
 read_so_far_decides s rest h =
     let four : 4 ≤ length s = omega (arith, needed_four s) in
-    line_of (s ++ rest) (simp length-append (omega arith))
-    ∙ rw (size_append s rest four, take-append-le (needed_of s) s rest h) (sym (line_of s (omega arith)))
+    line_of_lem (s ++ rest) (simp length-append (omega arith))
+    ∙ rw (size_append s rest four, take-append-le (needed_of s) s rest h) (sym (line_of_lem s (omega arith)))
 
 pub front_decides : FrontDecides
 unfolding FrontDecides ReadSoFarDecides needed_of
@@ -126,7 +126,7 @@ message_exactly s c n = (λ e. subst (OfLine s) e (of_line s), λ m w. shows m w
         let f = w.four in
         let t = w.there in
         let e = needed_size s (omega arith) (omega arith) ∙ z in
-        line_of s (omega arith) ∙ rw (e, w.accepted, w.command)
+        line_of_lem s (omega arith) ∙ rw (e, w.accepted, w.command)
 
 pub end_exactly : EndExactly
 unfolding EndExactly line_of
@@ -138,7 +138,7 @@ end_exactly s = (λ e. subst (OfLine s) e (of_line s), λ e. rw e)
 pub line_short : (s : List ℕ) → 0 < length s → length s < needed_of s → line_of s ≡ line.Refused status.Truncated
 unfolding needed_of
 line_short s h l =
-    line_of s h ∙ rw (take_all (needed_of s) s (omega arith), refused s status.Truncated 0 (fewer (read_size s) refl l))
+    line_of_lem s h ∙ rw (take_all (needed_of s) s (omega arith), refused s status.Truncated 0 (fewer (read_size s) refl l))
   where
     fewer : (x : Size) → read_size s ≡ x → length s < bytes_for x → Refusal s status.Truncated 0
     fewer (size.Declared n) e f = let d = size_declared s n e in given.before_size d.four (let a = d.size in let b = d.counted in omega arith) (let a = d.size in omega arith)
@@ -148,7 +148,7 @@ line_short s h l =
 line_refused : (s : List ℕ) → 0 < length s → (st : Status) → read_size s ≡ size.Refused st → line_of s ≡ line.Refused st
 unfolding needed_of
 line_refused s h st e =
-    line_of s h ∙ rw (e, sym (size_refused (take 4 s) st (size_take s 4 (omega arith) ∙ e)).1)
+    line_of_lem s h ∙ rw (e, sym (size_refused (take 4 s) st (size_take s 4 (omega arith) ∙ e)).1)
 
 pub cut_by_size : CutBySize
 unfolding CutBySize
@@ -156,5 +156,5 @@ cut_by_size s h = (
   λ f. line_short s h (let n = needed_four s in omega arith),
   λ f b. line_refused s h status.WrongSize (size_below s f b),
   λ f b. line_short s h (let e = needed_size s f (omega arith) in omega arith),
-  λ f a. line_of s h ∙ rw (needed_size s (omega arith) f),
+  λ f a. line_of_lem s h ∙ rw (needed_size s (omega arith) f),
 )

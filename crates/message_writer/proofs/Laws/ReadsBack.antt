@@ -217,9 +217,9 @@ module _ (s : List ℕ) (m : Message) (w : writable (length s) m ≡ true) where
       (either (field_of m t).present)
 
   -- reading the message of a record gives the record of what is written
-  pub read_message : read_message (message_of s m) ≡ answer.Accepted (placed_to m 8)
+  pub read_message_lem : read_message (message_of s m) ≡ answer.Accepted (placed_to m 8)
   unfolding AcceptedExactly
-  read_message =
+  read_message_lem =
       (accepted_exactly x (placed_to m 8)).1
       (record { headed = headed; reached = subst (λ (n : ℕ). Reached x n (placed_to m 8)) (sym (message_length s m w)) (reached 8); complete = complete })
 
@@ -265,4 +265,4 @@ unfolding ReadsBack
 reads_back s m out n e =
     let a = answer-wrote s m out n e in
     let b : take n (output s m out) ≡ message_of s m = ap (λ (k : ℕ). take k (output s m out)) (sym a.1) ∙ written-bytes s m out a.0 a.2 in
-    (placed_to m 8, rw b (read_message s m a.0), rw b (same_message s m a.0))
+    (placed_to m 8, rw b (read_message_lem s m a.0), rw b (same_message s m a.0))

@@ -25,14 +25,14 @@ use Rattle.message_writer.specs.Theorems.{Rising, WritesBack}
 use Rattle.message_reader.specs.Theorems as given
 use Rattle.wire.proofs.Laws.Bool.{either, not_both}
 use Rattle.message_rules.proofs.Laws.Rules.{type_small, type_not_1}
-use Rattle.wire.proofs.Laws.Below.{all_below}
+use Rattle.wire.proofs.Laws.Below.{all_below_lem}
 use Rattle.message_rules.proofs.Laws.Record.{field_same, field_other}
 use Rattle.message_reader.proofs.Laws.Reading.{accepted_exactly}
 use Rattle.message_rules.proofs.Laws.Size.{size_grows, size_there}
 use Rattle.message_writer.proofs.Laws.Writing.{wrote}
 use Rattle.message_writer.proofs.Laws.WithField.{body_empty, body-with}
 use Rattle.message_reader.proofs.Laws.WellFormed.{sound, accepted_well_formed}
-use Rattle.message_writer.proofs.Laws.ReadsBack.{placed_to, placed, placed_all, read_message, written-bytes}
+use Rattle.message_writer.proofs.Laws.ReadsBack.{placed_to, placed, placed_all, read_message_lem, written-bytes}
 
 -- ---- the writer takes the record of an accepted message
 
@@ -59,7 +59,7 @@ accepted_writable s m b k =
     let small = number_small true 2 0 s b in
     simp (
       k.known,
-      all_below (field_ok (length s) m) 8 (λ t h. ok_field s m k t),
+      all_below_lem (field_ok (length s) m) 8 (λ t h. ok_field s m k t),
       le-leb (size_to m 8) 65535 (omega (arith, k.size, k.filled, small)),
     )
 
@@ -67,14 +67,14 @@ accepted_writable s m b k =
 
 module _ (s : List ℕ) (b : Bytes s) where
   -- header and TLV, as they are written
-  head_bytes : Headed s → take 4 s ≡ head_bytes (length s) (command_in s)
-  head_bytes h =
+  head_bytes_lem : Headed s → take 4 s ≡ head_bytes (length s) (command_in s)
+  head_bytes_lem h =
       let two : take 2 s ≡ bytes 2 (length s) = sym (writes_back true 2 0 s (omega (arith, h.four)) b) ∙ ap (bytes 2) h.size in
       take-add 2 2 s
       ∙ rw (two, drop-cons s 2 0 (omega (arith, h.four)), drop-cons s 3 0 (omega (arith, h.four)), h.version)
 
-  tlv_bytes : (at : ℕ) → next_at s at ≤ length s → take (next_at s at) s ≡ take at s ++ tlv_bytes s (type_at s at) (value_at s at)
-  tlv_bytes at h =
+  tlv_bytes_lem : (at : ℕ) → next_at s at ≤ length s → take (next_at s at) s ≡ take at s ++ tlv_bytes s (type_at s at) (value_at s at)
+  tlv_bytes_lem at h =
       let n = length_at s at in
       let e : next_at s at ≡ at + suc (2 + n) = omega arith in
       let a : suc at ≡ at + 1 = omega arith in
@@ -140,7 +140,7 @@ module _ (s : List ℕ) (b : Bytes s) where
   rising_bytes : {at : ℕ} {m : Message} → Reached s at m → Rising m → take at s ≡ take 4 s ++ body_to s m 8
   rising_bytes given.start up = rw (body_empty s (command_in s) 8, append-nil)
   rising_bytes (given.next r k) up =
-      tlv_bytes _ k.whole
+      tlv_bytes_lem _ k.whole
       ∙ rw (rising_bytes r (before _ _ r k up), more _ _ r k up) (append_assoc (take 4 s) _ _)
 
   rising_message : (m : Message) → read_message s ≡ answer.Accepted m → Rising m → message_of s m ≡ s
@@ -150,7 +150,7 @@ module _ (s : List ℕ) (b : Bytes s) where
       let k = accepted_well_formed s m e in
       ap (λ (n : ℕ). head_bytes n m.command ++ body_to s m 8) k.filled
       ∙ ap (λ (c : ℕ). head_bytes (length s) c ++ body_to s m 8) k.command
-      ∙ ap (λ (l : List ℕ). l ++ body_to s m 8) (sym (head_bytes a.headed))
+      ∙ ap (λ (l : List ℕ). l ++ body_to s m 8) (sym (head_bytes_lem a.headed))
       ∙ sym (rising_bytes a.reached up)
       ∙ take-length s
 
@@ -186,6 +186,6 @@ writes_back_exactly s m out b e room =
       sym (wrote s m out w h).0 ∙ ap written.Wrote k.filled,
       λ up. l ∙ rising_message s b m e up,
       λ q.
-          let r : read_message s ≡ answer.Accepted (placed_to m 8) = ap read_message (sym (sym l ∙ q)) ∙ read_message s m w in
+          let r : read_message s ≡ answer.Accepted (placed_to m 8) = ap read_message (sym (sym l ∙ q)) ∙ read_message_lem s m w in
           subst Rising (sym (same_record (sym e ∙ r))) (placed_rising m),
     )

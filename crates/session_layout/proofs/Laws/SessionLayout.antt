@@ -19,7 +19,7 @@ use Rattle.wire.specs.Layout.{flag}
 use Rattle.wire.specs.LittleEndian.{bytes}
 use Rattle.wire.specs.Number.{bytes_in}
 use Rattle.session_layout.specs.SessionLayout.{state_of, state_number, id_at, session_bytes, session_of, same_session, SessionReadsBack, SameIsEqual, SameAsItself}
-use Rattle.wire.proofs.Laws.Below.{all_below, below_all}
+use Rattle.wire.proofs.Laws.Below.{all_below_lem, below_all}
 use Rattle.wire.proofs.Laws.Bool.{impossible, both}
 use Rattle.wire.proofs.Laws.Laid.{laid_fits}
 use Rattle.wire.proofs.Laws.Layout.{Begins, laid_begins, before_part, before, number_in, flag_in}
@@ -91,7 +91,7 @@ bytes_equal a b l m e =
 
 pub bytes_same : (bs : List ℕ) → same_bytes bs bs ≡ true
 unfolding same_bytes
-bytes_same bs = all_below (same_at bs bs) 16 (λ k l. eq-eqb (get_or bs k 0) (get_or bs k 0) refl)
+bytes_same bs = all_below_lem (same_at bs bs) 16 (λ k l. eq-eqb (get_or bs k 0) (get_or bs k 0) refl)
 
 pub same_is_equal : SameIsEqual
 unfolding SameIsEqual same_session

@@ -15,7 +15,7 @@ use Rattle.text.specs.Range.{within}
 use Rattle.text.specs.Abnf.{Letter, small, capital, Quoted, no_letter, letter, HexDig, decimal, upper, lower, HexDigs, no_digit, digit}
 use Rattle.text.specs.Hex.{digit_value, is_digit, number, read_digits, digit_of, spell_digits}
 use Rattle.text.specs.Word.{lowered, same_letter, spells, raised}
-use Rattle.wire.proofs.Laws.Below.{below_all, all_below, computed}
+use Rattle.wire.proofs.Laws.Below.{below_all, all_below_lem, computed}
 use Rattle.wire.proofs.Laws.Bool.{impossible, both}
 use Rattle.text.proofs.Laws.Range.{inside, below, above}
 use Rattle.text.proofs.Laws.Hex.{decimal_value, upper_value, lower_value, no_value}
@@ -73,7 +73,7 @@ unfolding spells same_letter
 quoted_spells {w} {s} q =
     simp (
       eq-eqb (length s) (length w) (quoted_length q),
-      all_below (same_letter w s) (length w) (λ k l. eq-eqb (lowered (get_or s k 0)) (get_or w k 0) (quoted_at q k)),
+      all_below_lem (same_letter w s) (length w) (λ k l. eq-eqb (lowered (get_or s k 0)) (get_or w k 0) (quoted_at q k)),
     )
 
 -- a word in small letters
@@ -178,7 +178,7 @@ pub hexdigs_read : {s : List ℕ} {v : ℕ} → HexDigs 4 s v → read_digits s 
 unfolding read_digits is_digit
 hexdigs_read {s} {v} ds =
     let d = hexdigs_digital ds in
-    let each : all_below 4 (is_digit s) ≡ true = all_below (is_digit s) 4 (λ k l. lt-ltb (digit_value (get_or s k 0)) 16 (d.each k l)) in
+    let each : all_below 4 (is_digit s) ≡ true = all_below_lem (is_digit s) 4 (λ k l. lt-ltb (digit_value (get_or s k 0)) 16 (d.each k l)) in
     simp (d.size, each, d.value)
 
 pub read_hexdigs : (s : List ℕ) (v : ℕ) → length s ≡ 4 → read_digits s ≡ digits.Number v → HexDigs 4 s v

@@ -17,10 +17,10 @@ module _ (p : ℕ → Bool) where
   below_next n e h = rw add-one (simp (e, h))
 
   -- it holds of each, so of every
-  pub all_below : (n : ℕ) → ((k : ℕ) → k < n → p k ≡ true) → all_below n p ≡ true
+  pub all_below_lem : (n : ℕ) → ((k : ℕ) → k < n → p k ≡ true) → all_below n p ≡ true
   unfolding all_below
-  all_below zero h = refl
-  all_below (suc n) h = simp (all_below n (λ k l. h k (omega arith)), h n (omega arith))
+  all_below_lem zero h = refl
+  all_below_lem (suc n) h = simp (all_below_lem n (λ k l. h k (omega arith)), h n (omega arith))
 
   -- it fails of one
   pub one_below : (n k : ℕ) → k < n → p k ≡ false → all_below n p ≡ false

@@ -5,7 +5,7 @@ use lib.Seq.{length-take-le}
 use borrow.Author.Rules.{rules}
 use borrow.Author.Tests.{eq-eqb}
 use Rattle.message_recording.specs.Line.{line_of}
-use Rattle.message_recording.proofs.Laws.Line.{positive, line_of, line_short}
+use Rattle.message_recording.proofs.Laws.Line.{positive, line_of_lem, line_short}
 use Rattle.message_recording.proofs.line.first_line.Statement.{statement}
 use Rattle.message_recording.proofs.line.first_line.Tie as tie
 
@@ -42,7 +42,7 @@ returns-3 c =
     let n = r.before.before.before in
     let s = n.before.before.before.args.bytes.now in
     simp (
-      line_of s (positive _ n.before.if1.false),
+      line_of_lem s (positive _ n.before.if1.false),
       ← n.needed.ensures,
       ← r.read.ensures,
       c.status-at.ensures,
@@ -54,7 +54,7 @@ returns-4 c =
     let r = c.before.before.before in
     let n = r.before.before.before in
     let s = n.before.before.before.args.bytes.now in
-    simp (line_of s (positive _ n.before.if1.false), ← n.needed.ensures, ← r.read.ensures, c.before.answer.given.1)
+    simp (line_of_lem s (positive _ n.before.if1.false), ← n.needed.ensures, ← r.read.ensures, c.before.answer.given.1)
 
 pub first-line-spec : {M : Type 1} → statement M
 first-line-spec =
