@@ -74,6 +74,7 @@ pub fn number(status: Status) -> u8
 }
 
 // The status of a number. No status has a number above 18: one is an unknown kind.
+#[tactic(auto, unfolding(crate::specs::Status::status_for))]
 pub fn of_number(number: u8) -> Status
     ensures { result ≡ status_for number }
 {

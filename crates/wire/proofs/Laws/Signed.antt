@@ -1,5 +1,5 @@
 -- Laws of two's complement: it goes back, and for n bytes it is the machine's of the width w that has as many bits. Assumes nothing.
-use Rattle.std.proofs.Common.{◌≡◌, ℕ, suc, ◌+◌, ◌-◌, ◌*◌, ◌^◌, ◌<◌, ◌≤◌, true, false, T, ℤ, pos, negsuc, ◌+ℤ◌, ◌-ℤ◌, nat_abs, sym, refl, ap, ◌∙◌, arith, Fits, SFits, to_z, of_z, le-ltb, lt-ltb, leb-false}
+use Rattle.std.proofs.Common.{◌≡◌, ℕ, suc, ◌-◌, ◌*◌, ◌^◌, ◌<◌, ◌≤◌, true, false, T, ℤ, pos, negsuc, ◌+ℤ◌, ◌-ℤ◌, nat_abs, sym, refl, ap, ◌∙◌, arith, Fits, SFits, to_z, of_z, le-ltb, lt-ltb, leb-false}
 use native.Mathlib.Decide.{dec_lt}
 use lib.Signed.{le_z, non_neg}
 use mir.Syntax.{Width}

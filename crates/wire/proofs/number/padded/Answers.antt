@@ -1,5 +1,5 @@
 -- After k bytes v is the number in them, and small enough for the next one. Assumes nothing.
-use Rattle.std.proofs.Common.{◌-◌, true, arith}
+use Rattle.std.proofs.Common.{true, arith}
 use Rattle.wire.proofs.Laws.Digits.{none_read, one_fits, one_read, all_read}
 use Rattle.wire.proofs.number.padded.Goals as goal
 

@@ -1,5 +1,5 @@
 -- After k bytes `value` is the number in them, and small enough for the next one. Assumes nothing.
-use Rattle.std.proofs.Common.{ℕ, ◌+◌, ◌-◌, get_or, ap, arith}
+use Rattle.std.proofs.Common.{ℕ, ◌+◌, get_or, ap, arith}
 use Rattle.wire.proofs.Laws.Digits.{none_read, one_fits, one_read, all_read}
 use Rattle.wire.proofs.order.whole.Goals as goal
 

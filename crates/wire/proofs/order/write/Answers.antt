@@ -16,7 +16,7 @@ pub loop-k-init : goal.loop-k-init
 loop-k-init c = let a = c.args in none_wrote a.big a.at a.n a.v a.out.now
 
 pub place-requires : goal.place-requires
-place-requires c κs = let some = c.loop-k.invariant.some in search rules
+place-requires c = let some = c.loop-k.invariant.some in search rules
 
 pub bounds-out-at : goal.bounds-out-at
 bounds-out-at c = let same = c.loop-k.invariant.length_same in omega arith

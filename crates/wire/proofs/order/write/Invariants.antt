@@ -1,5 +1,4 @@
 -- What is still to be written on the bytes as they are, k bytes of the rest, is what was to be written at first. Assumes nothing.
-use Rattle.std.proofs.Common.{◌-◌}
 use Rattle.wire.proofs.Laws.Digits.{Wrote}
 use Rattle.wire.proofs.order.write.Given as goal
 
