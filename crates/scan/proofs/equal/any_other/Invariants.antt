@@ -1,0 +1,13 @@
+-- The greatest difference passed is not 0 exactly if there was one. Assumes nothing.
+use Prim.Native.Nat.{◌+◌, ◌-◌}
+use mathlib.Core.Bool.{not}
+use lib.Dec.{eqb}
+use Rattle.scan.proofs.Laws.Below.{Passed}
+use Rattle.scan.proofs.Laws.Equal.{other_at}
+use Rattle.scan.proofs.equal.any_other.Given as goal
+
+abbrev pub invariant-loop-k : goal.invariant-loop-k
+invariant-loop-k l = Passed l.size (λ j. other_at l.a l.b (l.at + j)) l.k (not (eqb l.high 0))
+
+abbrev pub decreases-loop-k : goal.decreases-loop-k
+decreases-loop-k l = l.size - l.k

@@ -1,0 +1,12 @@
+-- Each branch returns the number that the definition picks. Assumes nothing.
+use borrow.Author.Tests.{lt-ltb, le-ltb}
+use Rattle.scan.specs.Order.{greater}
+use Rattle.scan.proofs.order.most.Goals as goal
+
+pub returns-then-a-b : goal.returns-then-a-b
+unfolding greater
+returns-then-a-b c = simp (lt-ltb _ _ c.if-a-b.true)
+
+pub returns-else-a-b : goal.returns-else-a-b
+unfolding greater
+returns-else-a-b c = simp (le-ltb _ _ c.if-a-b.false)
