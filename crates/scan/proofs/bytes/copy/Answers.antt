@@ -94,3 +94,9 @@ returns c = let l = c.loop-k in
     let a = n.args in
     let e : l.k ≡ n.least_length-n.result = omega arith in
     l.invariant.3 ∙ copy_end a.from.now a.to.now l.k (e ∙ n.least_length-n.ensures)
+
+pub slice_bounds-copy_by_block-end : goal.slice_bounds-copy_by_block-end
+slice_bounds-copy_by_block-end c = let s = next _ _ _ c.loop-k-test.true c.least_length.ensures in omega arith
+
+pub slice_bounds-copy_by_block-end-in-loop-k : goal.slice_bounds-copy_by_block-end-in-loop-k
+slice_bounds-copy_by_block-end-in-loop-k c = let s = next _ _ _ c.loop-k-test.true c.least_length.ensures in omega arith

@@ -1,5 +1,5 @@
 -- The greatest mark passed is not 0 exactly if one of them is not. Assumes nothing.
-use Prim.Native.Nat.{◌+◌, ◌-◌}
+use Prim.Native.Nat.{◌+◌}
 use mathlib.Core.Path.{refl}
 use lib.ListN.{get_or}
 use Rattle.scan.proofs.Laws.Below.{passed_none, passed_all, greater-step}

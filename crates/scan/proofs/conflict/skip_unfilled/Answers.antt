@@ -1,5 +1,4 @@
 -- No place from `from` on and below k is filled. Assumes nothing.
-use Prim.Native.Nat.{◌-◌}
 use mathlib.Core.Path.{sym, ◌∙◌}
 use native.Mathlib.Omega.{arith}
 use Rattle.scan.specs.Empty.{filled_at}

@@ -1,5 +1,4 @@
 -- Both hold the same byte in each place from `from` on and below k. Assumes nothing.
-use Prim.Native.Nat.{◌-◌}
 use mathlib.Core.Path.{sym, ◌∙◌}
 use native.Mathlib.Omega.{arith}
 use Rattle.scan.proofs.Laws.Equal.{equal-more}
