@@ -1,8 +1,10 @@
 // Text and numbers on standard output.
 #![tactic(auto)]
 
-use libc::STDOUT_FILENO;
 use wire::signed;
+
+// Standard output.
+const STDOUT_FILENO: i32 = 1;
 
 pub fn text(bytes: &[u8]) {
     io::write_all(STDOUT_FILENO, bytes);
