@@ -3,7 +3,7 @@
 ghost use Rattle.std.specs.Prelude.{◌≡◌};
 ghost use Rattle.wire.specs.Status.{number_of, status_for};
 
-#[derive(Drop)]
+#[derive(Clone, Copy)]
 pub enum Status {
     // 0: accepted.
     Accepted,
