@@ -23,6 +23,7 @@ pub struct Message {
 }
 
 // The field of a TLV type.
+#[tactic(auto, unfolding(crate::specs::Record::field_of))]
 pub fn field_of(message: Message, kind: u8) -> Field
     ensures { result ≡ field_of message kind }
 {

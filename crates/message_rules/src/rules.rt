@@ -21,6 +21,7 @@ pub fn known_command(command: u8) -> bool
 
 // What a TLV type is to a command: FOREIGN, NEEDED or OPTIONAL. A type or a command that there is not is foreign. The types: 0 Friendly Name,
 // 2 RTSP Port, 3 Source ID, 4 Security Token, 5 Security Options, 6 PIN Challenge, 7 PIN Response Reason.
+#[tactic(auto, unfolding(crate::specs::Rules::role_of, crate::specs::Rules::roles_of))]
 pub fn role(command: u8, kind: u8) -> u8
     ensures { result ≡ role_of command kind }
 {
@@ -84,6 +85,7 @@ fn within(len: usize, least: usize, most: usize, unit: usize) -> bool
 }
 
 // Whether a value of this type may have this length.
+#[tactic(auto, unfolding(crate::specs::Rules::length_ok, crate::specs::Rules::lengths_of))]
 pub fn length_ok(kind: u8, len: usize) -> bool
     ensures { result ≡ length_ok kind len }
 {
