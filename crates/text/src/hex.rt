@@ -42,6 +42,7 @@ pub fn read(bytes: &[u8]) -> Digits
 }
 
 // The digit of a value, in capitals. A match, which compiles to a table that is never copied.
+#[tactic(auto, unfolding(crate::specs::Hex::digit_of))]
 fn capital_digit(value: u8) -> u8
     requires { value < 16 }
     ensures { result ≡ digit_of value }

@@ -1,5 +1,5 @@
 -- The first k places hold the word's bytes, the others what they held. Assumes nothing.
-use Prim.Native.Nat.{ℕ, suc, ◌+◌, ◌-◌, ◌≤◌, ◌<◌}
+use Prim.Native.Nat.{ℕ, suc, ◌+◌, ◌≤◌, ◌<◌}
 use mathlib.Core.Path.{◌≡◌, refl, sym, ◌∙◌}
 use mathlib.Core.List.{List, ◌++◌}
 use native.Mathlib.Omega.{arith}
@@ -9,14 +9,7 @@ use lib.ListN.{length, get_or, take, drop, set, length-set}
 use lib.Seq.{append_snoc, drop-cons, length-take-le, set_at, take-length, take-suc}
 use Rattle.wire.specs.Splice.{splice}
 use Rattle.wire.specs.Laid.{laid}
-use Rattle.text.proofs.word.copy.Statement.{statement}
-use Rattle.text.proofs.word.copy.Tie as tie
-
-abbrev invariant-loop : tie.invariant-loop
-invariant-loop out₀ word k₀ out k = (k ≤ length word) × (length out ≡ length out₀) × (out ≡ take k word ++ drop k out₀)
-
-abbrev decreases-loop : tie.decreases-loop
-decreases-loop out₀ word k₀ out k = length word - k
+use Rattle.text.proofs.word.copy.Goals as goal
 
 step : (w xs ys : List ℕ) (k : ℕ) → k < length w → k < length xs → ys ≡ take k w ++ drop k xs
     → set ys k (get_or w k 0) ≡ take (k + 1) w ++ drop (k + 1) xs
@@ -31,38 +24,20 @@ done w xs ys k h l e =
     let z : 0 + length w ≡ length w = omega arith in
     simp (le-leb (length w) (length xs) h) (e ∙ rw (l, take-length, z))
 
-returns : tie.Need-returns invariant-loop decreases-loop
+pub returns-then-out-word : goal.returns-then-out-word
 unfolding laid
-returns c = simp (lt-leb _ _ c.if1.true)
+returns-then-out-word c = simp (lt-leb _ _ c.if-out-word.true)
 
-loop-holds : tie.Need-loop-init invariant-loop decreases-loop
-loop-holds c = (omega arith, refl, refl)
+pub loop-k-init : goal.loop-k-init
+loop-k-init c = (omega arith, refl, refl)
 
-loop-again : tie.Need-loop-preserved invariant-loop decreases-loop
-loop-again c =
-    let l = c.before.before.loop in
-    let a = c.before.before.before.before.args in
+pub loop-k-preserved : goal.loop-k-preserved
+loop-k-preserved c = let l = c.loop-k in
+    let a = c.args in
     let e : length (set l.out l.k (get_or a.word.now l.k 0)) ≡ length l.out = simp length-set in
     (omega arith, e ∙ l.invariant.1, step a.word.now a.out.now l.out l.k (omega arith) (omega arith) l.invariant.2)
 
-returns-2 : tie.Need-returns-2 invariant-loop decreases-loop
-returns-2 c =
-    let l = c.before.loop in
-    let a = c.before.before.before.args in
+pub returns : goal.returns
+returns c = let l = c.loop-k in
+    let a = c.args in
     done a.word.now a.out.now l.out l.k (omega arith) (omega arith) l.invariant.2
-
-pub copy_spec : {M : Type 1} → statement M
-copy_spec =
-    tie.close
-    (tie.spec
-    invariant-loop
-    decreases-loop
-    returns
-    loop-holds
-    (λ c. omega arith)
-    (λ c. omega arith)
-    (λ c. omega arith)
-    (λ c. omega arith)
-    loop-again
-    (λ c. omega arith)
-    returns-2)
