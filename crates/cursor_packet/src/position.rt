@@ -54,6 +54,7 @@ pub fn fields(packet: &[u8]) -> Position
 
 // The first refusal in 01's order, or Accepted: fewer than 15 bytes 1; RTP 3; another type 4; PacketMsgSize not 7, 2; too few bytes 1; too
 // many 2.
+#[tactic(auto, unfolding(crate::specs::Position::position_checks, crate::specs::Frame::frame_checks, wire::specs::Checks::first_of))]
 pub fn check(packet: &[u8]) -> Status
     ensures { result ≡ first_of (position_checks packet.now) }
 {

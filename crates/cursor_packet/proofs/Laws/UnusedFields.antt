@@ -18,7 +18,7 @@ use Rattle.wire.proofs.Laws.Number.{number_same}
 use Rattle.cursor_packet.specs.Rtp.{rtp_holds}
 use Rattle.cursor_packet.specs.Frame.{type_of, size_of, size_checks, frame_checks}
 use Rattle.cursor_packet.specs.Position.{position_checks, position_at, read_position}
-use Rattle.cursor_packet.specs.UnusedFields.{SameButUnused, PartsAlike, UnusedIgnored, FirstTwoWrong, WrongRtp, ThreeExactly}
+use Rattle.cursor_packet.specs.UnusedFields.{SameButUnused, PartsAlike, UnusedIgnored, FirstTwoWrong, ThreeExactly}
 
 module _ (a b : List ℕ) (d : SameButUnused a b) where
   elsewhere : (i : ℕ) → (i < 4) ⊎ (12 ≤ i) → get_or a i 0 ≡ get_or b i 0

@@ -1,0 +1,17 @@
+-- The first two bytes are tested as one number. Assumes nothing.
+use Prim.Native.Nat.{ℕ}
+use native.Mathlib.Omega.{arith}
+use borrow.Author.Tests.{lt-leb, le-leb}
+use Rattle.wire.specs.Number.{Bytes}
+use Rattle.cursor_packet.specs.Rtp.{rtp_holds}
+use Rattle.cursor_packet.proofs.Laws.Rtp.{first_two}
+use Rattle.cursor_packet.proofs.rtp.holds.Goals as goal
+
+pub returns-then-packet-lt-HEADER : goal.returns-then-packet-lt-HEADER
+unfolding rtp_holds
+returns-then-packet-lt-HEADER c = simp (lt-leb 12 _ c.if-packet-lt-HEADER.true)
+
+pub returns : goal.returns
+unfolding rtp_holds
+returns c = let small : Bytes c.args.packet.now = λ (i : ℕ). omega (arith, c.shared_slice_known-1.given i) in
+    simp (le-leb 12 _ c.if-packet-lt-HEADER.false) (rw c.u16_at.ensures (first_two c.args.packet.now 0x80 0 small (omega arith)))
