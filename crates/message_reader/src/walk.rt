@@ -95,6 +95,7 @@ pub fn locate(bytes: &[u8], values: &mut Values) -> u64
 }
 
 // The field of a value; no value begins at 0.
+#[tactic(auto, unfolding(crate::specs::Values::field_from))]
 fn field_from(value: u64) -> Field
     ensures { result ≡ field_from value }
 {
