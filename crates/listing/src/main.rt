@@ -11,9 +11,11 @@ ghost use Rattle.message_recording.specs.Line.{line_of};
 ghost use Rattle.listing.specs.State.{Within, Lines, AllShown, decided, state_after};
 ghost use Rattle.listing.specs.Text.{Put, text_of};
 
-use libc::{STDERR_FILENO, STDIN_FILENO, STDOUT_FILENO};
 use message_recording::cut::needed;
 use message_recording::line::{Line, first_line};
+use std::env::{Env, FillError};
+use std::io::{Eprint, ErrorKind, Print, Read, Write};
+use std::{fs, io};
 
 // The verdicts are exit statuses. The recording is whole.
 const WHOLE: u8 = 0;
@@ -43,7 +45,13 @@ struct State {
 
 // Reads once, after the bytes that are not listed yet, which are moved to the buffer's front. They leave room, so that a read of no bytes is
 // the end of the recording.
-fn read_more(fd: i32, path: &[u8], buf: &mut [u8], state: State) -> State
+fn read_more<R: Read>(
+    rt: &HostRuntime,
+    input: &mut R,
+    path: &str,
+    buf: &mut [u8],
+    state: State,
+) -> State
     requires from_le_to { (state.from ≤ state.to) × (state.to ≤ length buf.old) }
     requires to_bound { state.to < state.from + length buf.old }
     ensures from_le_to_2 { (result.from ≤ result.to) × (result.to ≤ length buf.new) × (result.used ≡ state.used) × (result.place ≡ state.place) }
@@ -53,15 +61,16 @@ fn read_more(fd: i32, path: &[u8], buf: &mut [u8], state: State) -> State
     let kept = buffer::move_to_front(buf, state.from, state.to);
     state.from = 0;
     state.to = kept;
-    let got = libc::read(fd, &mut buf[kept..]);
-    if got < 0 {
-        os::fail(path);
-        state.going = false;
-        return state;
+    match input.read(&mut buf[kept..]) {
+        Err(error) => {
+            print::failed(rt, path, error);
+            state.going = false;
+        }
+        Ok(more) => {
+            state.to = kept + more;
+            state.ended = more == 0;
+        }
     }
-    let more = io::count(got, &buf[kept..]);
-    state.to = kept + more;
-    state.ended = more == 0;
     state
 }
 
@@ -127,27 +136,27 @@ fn show_lines(buf: &[u8], out: &mut [u8], state: State) -> State
 }
 
 // Says why the lines can't be written, and answers the verdict. Where nobody reads them any more, as after `| head -1`, nothing is wrong.
-fn unwritten() -> u8
+fn unwritten(rt: &HostRuntime, error: io::Error) -> u8
     ensures { 2 ≤ result }
 {
-    if os::errno() == libc::EPIPE {
+    if error.kind() == ErrorKind::BrokenPipe {
         return UNREAD;
     }
-    os::fail(b"standard output");
+    print::failed(rt, "standard output", error);
     FAILED
 }
 
 // Writes the lines that are there. Where that fails, the verdict is no longer what the lines say.
-fn write_lines(out: &[u8], state: State) -> State
+fn write_lines(rt: &HostRuntime, out: &[u8], state: State) -> State
     requires { state.used ≤ length out.now }
     ensures from_value { (result.from ≡ state.from) × (result.to ≡ state.to) × (result.used ≡ 0) }
     ensures verdict { (result.verdict ≡ state.verdict) ⊎ (2 ≤ result.verdict) }
 {
     let mut state = state;
     let used = state.used;
-    if !io::write_all(STDOUT_FILENO, &out[..used]) {
+    if let Err(error) = rt.write_all(&out[..used]) {
         state.going = false;
-        state.verdict = unwritten();
+        state.verdict = unwritten(rt, error);
     }
     state.used = 0;
     state
@@ -155,23 +164,30 @@ fn write_lines(out: &[u8], state: State) -> State
 
 // Puts the lines that are decided, and writes them: before they leave no room for the next, and before a read, which may have to wait for
 // more of a pipe. Where there are none, and it goes on, reads once.
-fn step(fd: i32, path: &[u8], buf: &mut [u8], out: &mut [u8], state: State) -> State
+fn step<R: Read>(
+    rt: &HostRuntime,
+    input: &mut R,
+    path: &str,
+    buf: &mut [u8],
+    out: &mut [u8],
+    state: State,
+) -> State
     requires { Within buf.old out.old state }
     ensures { Within buf.new out.new result }
 {
     let state = show_lines(buf, out, state);
     if state.used > 0 {
-        return write_lines(out, state);
+        return write_lines(rt, out, state);
     }
     if !state.going {
         return state;
     }
-    read_more(fd, path, buf, state)
+    read_more(rt, input, path, buf, state)
 }
 
 // Lists the recording, and answers the verdict. A proved loop has to end, and nothing says that a file does. So the loop counts its turns
 // down, from a number that no run uses up.
-fn list(fd: i32, path: &[u8], buf: &mut [u8], out: &mut [u8]) -> u8
+fn list<R: Read>(rt: &HostRuntime, input: &mut R, path: &str, buf: &mut [u8], out: &mut [u8]) -> u8
     requires in_bounds { 65536 ≤ length buf.old }
     requires in_bounds_2 { 64 ≤ length out.old }
 {
@@ -186,70 +202,64 @@ fn list(fd: i32, path: &[u8], buf: &mut [u8], out: &mut [u8]) -> u8
     };
     let mut turns = u64::MAX;
     while turns > 0 && state.going {
-        state = step(fd, path, buf, out, state);
+        state = step(rt, input, path, buf, out, state);
         turns -= 1;
     }
-    let state = write_lines(out, state);
+    let state = write_lines(rt, out, state);
     state.verdict
 }
 
-// Opens the recording, and answers a descriptor, or a negative number.
-fn open(path: &[u8]) -> i32 {
-    if path.len() == 1 {
-        if path[0] == b'-' {
-            return STDIN_FILENO;
+// Lists a recording that is open, and answers the verdict.
+fn list_open<R: Read>(rt: &HostRuntime, input: &mut R, path: &str) -> u8 {
+    let mut buf = [0u8; 65536];
+    let mut out = [0u8; 65536];
+    list(rt, input, path, &mut buf, &mut out)
+}
+
+// Lists the file of that name, or standard input for `-`, and answers the verdict.
+fn list_file(rt: &HostRuntime, path: &str) -> u8 {
+    if path == "-" {
+        return list_open(rt, &mut rt.stdin(), path);
+    }
+    match fs::open(rt, path) {
+        Ok(mut file) => list_open(rt, &mut file, path),
+        Err(error) => {
+            print::failed(rt, path, error);
+            FAILED
         }
     }
-    os::open_read(path)
 }
 
-// Lists the file of that name, and answers the verdict.
-fn list_file(path: &[u8]) -> u8 {
-    let fd = open(path);
-    if fd < 0 {
-        os::fail(path);
-        return FAILED;
-    }
-    let mut buf = io::large_buffer();
-    let mut out = io::large_buffer();
-    let verdict = list(fd, path, &mut buf, &mut out);
-    libc::close(fd);
-    verdict
+// Writes the verdict to the file of that name, which it makes, or empties where it is there.
+fn tell(rt: &HostRuntime, path: &str, verdict: u8) -> io::Result<()> {
+    let mut file = fs::create(rt, path)?;
+    write!(file, "{verdict}")
 }
 
-// Writes the verdict to the file that the second argument names.
-fn tell(verdict: u8) {
-    let mut path = io::buffer();
-    let length = os::arg(2, &mut path);
-    if os::errno() != 0 {
-        os::fail(b"path");
-        return;
-    }
-    let fd = os::open_overwrite(&path[..length]);
-    if fd < 0 {
-        os::fail(&path[..length]);
-        return;
-    }
-    if !io::print_decimal(fd, verdict as u64) {
-        os::fail(&path[..length]);
-    }
-    libc::close(fd);
+// Whether there is an argument of that number.
+fn has_argument(rt: &HostRuntime, number: usize) -> bool {
+    let mut none = [0u8; 0];
+    !matches!(rt.arg(number, &mut none), Err(FillError::NotPresent))
 }
 
-fn main() {
-    let count = os::arg_count();
-    if count != 2 && count != 3 {
-        io::write_all(STDERR_FILENO, b"usage: listing FILE [VERDICT]\n");
+fn main(rt: HostRuntime) {
+    if !has_argument(&rt, 1) || has_argument(&rt, 3) {
+        rt.eprintln("usage: listing FILE [VERDICT]").ok();
         return;
     }
-    let mut path = io::buffer();
-    let length = os::arg(1, &mut path);
-    if os::errno() != 0 {
-        os::fail(b"path");
+    let mut path = [0u8; 4096];
+    let Some(path) = print::argument(&rt, 1, &mut path, "path") else {
+        return;
+    };
+    let verdict = list_file(&rt, path);
+    if !has_argument(&rt, 2) {
         return;
     }
-    let verdict = list_file(&path[..length]);
-    if count == 3 {
-        tell(verdict);
+    let mut name = [0u8; 4096];
+    let Some(name) = print::argument(&rt, 2, &mut name, "path") else {
+        return;
+    };
+    if let Err(error) = tell(&rt, name, verdict) {
+        print::failed(&rt, name, error);
     }
 }

@@ -1,10 +1,19 @@
-// Text and numbers on standard output.
+// Text and numbers on standard output, and on standard error why something failed.
 #![tactic(auto)]
 
+use std::env::{Env, FillError};
+use std::io::{Eprint, Error};
 use wire::signed;
 
 // Standard output.
 const STDOUT_FILENO: i32 = 1;
+
+// The numbers of the system's errors for an argument that is missing, is longer than a path may be, or is no text.
+const EINVAL: i32 = 22;
+
+const ENAMETOOLONG: i32 = 36;
+
+const EILSEQ: i32 = 84;
 
 pub fn text(bytes: &[u8]) {
     io::write_all(STDOUT_FILENO, bytes);
@@ -44,4 +53,40 @@ pub fn hex(bytes: &[u8]) {
         io::print_hex(STDOUT_FILENO, bytes[k] as u64, 2);
         k += 1;
     }
+}
+
+// The system's words for an error, without its number.
+fn without_number(words: &str) -> &str {
+    match words.find(" (os error ") {
+        Some(end) => &words[..end],
+        None => words,
+    }
+}
+
+// A line on standard error: what failed, a colon and the system's words for why.
+pub fn failed(rt: &HostRuntime, what: &str, error: Error) {
+    let Ok(words) = format!(in rt.alloc(); "{error}") else {
+        return;
+    };
+    let why = without_number(words.as_str());
+    rt.eprintln(format_args!("{what}: {why}")).ok();
+}
+
+// The argument of that number, as text, in the bytes that are lent. Where it can't be had, says so on standard error: `what`, and why.
+pub fn argument<'a>(
+    rt: &HostRuntime,
+    number: usize,
+    bytes: &'a mut [u8],
+    what: &str,
+) -> Option<&'a str> {
+    let why = match rt.arg(number, bytes) {
+        Ok(length) => match std::str::from_utf8(&bytes[..length]) {
+            Ok(text) => return Some(text),
+            Err(_) => EILSEQ,
+        },
+        Err(FillError::TooLong) => ENAMETOOLONG,
+        Err(FillError::NotPresent) => EINVAL,
+    };
+    failed(rt, what, Error::from_raw_os_error(why));
+    None
 }

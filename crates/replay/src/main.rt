@@ -7,6 +7,8 @@
 ghost use Rattle.std.specs.Prelude.{◌<◌, ◌≤◌};
 
 use cursor_layout::{picture_layout, pointer_layout};
+use std::fs;
+use std::io::Read;
 use wire::{number, signed};
 
 // n and a space.
@@ -96,15 +98,15 @@ fn end_of(length: usize) -> usize
 }
 
 // Plays one frame; answers no at the end of the file.
-fn turn(
-    fd: i32,
+fn turn<R: Read>(
+    stream: &mut R,
     pointer: &mut [u8],
     picture: &mut [u8],
     image: &mut [u8],
     marks: &mut [u8],
 ) -> bool {
     let mut frame = [0u8; 40];
-    if io::read_full(fd, &mut frame) < 40 {
+    if stream.read_exact(&mut frame).is_err() {
         return false;
     }
     let kind = number::u8_at(&frame, 0);
@@ -114,10 +116,16 @@ fn turn(
 }
 
 // A proved loop has to end, and nothing says that a file does: the calls are counted up to a number that no run reaches.
-fn play(fd: i32, pointer: &mut [u8], picture: &mut [u8], image: &mut [u8], marks: &mut [u8]) {
+fn play<R: Read>(
+    stream: &mut R,
+    pointer: &mut [u8],
+    picture: &mut [u8],
+    image: &mut [u8],
+    marks: &mut [u8],
+) {
     let mut calls: u64 = 0;
     while calls < u64::MAX {
-        if !turn(fd, pointer, picture, image, marks) {
+        if !turn(stream, pointer, picture, image, marks) {
             return;
         }
         calls += 1;
@@ -127,28 +135,23 @@ fn play(fd: i32, pointer: &mut [u8], picture: &mut [u8], image: &mut [u8], marks
     }
 }
 
-fn replay(fd: i32) {
+fn replay<R: Read>(stream: &mut R) {
     let mut pointer = [0u8; pointer_layout::LENGTH];
     let mut picture = [0u8; picture_layout::LENGTH];
     cursor_calls::pointer_fresh(&mut pointer);
     cursor_calls::picture_fresh(&mut picture);
     let mut image = [46u8; 40];
     let mut marks = [7u8; 40];
-    play(fd, &mut pointer, &mut picture, &mut image, &mut marks);
+    play(stream, &mut pointer, &mut picture, &mut image, &mut marks);
 }
 
-fn main() {
-    let mut path = io::buffer();
-    let length = os::arg(1, &mut path);
-    if os::errno() != 0 {
-        os::fail(b"replay: a stream's file name is needed");
+fn main(rt: HostRuntime) {
+    let mut bytes = [0u8; 4096];
+    let Some(path) = print::argument(&rt, 1, &mut bytes, "replay: a stream's file name is needed") else {
         return;
+    };
+    match fs::open(&rt, path) {
+        Ok(mut stream) => replay(&mut stream),
+        Err(error) => print::failed(&rt, path, error),
     }
-    let fd = os::open_read(&path[..length]);
-    if fd < 0 {
-        os::fail(&path[..length]);
-        return;
-    }
-    replay(fd);
-    libc::close(fd);
 }
