@@ -65,21 +65,21 @@ unfolding within all_below lowered same_letter spells read_value
 empty = refl
 
 -- 003 section 4: `full 0x0200 0x0200 50001`, whose numbers aren't four hexadecimal digits
-pub section-4
+pub section_4
     : read_value
     (0x66 ∷ 0x75 ∷ 0x6C ∷ 0x6C ∷ 0x20 ∷ 0x30 ∷ 0x78 ∷ 0x30 ∷ 0x32 ∷ 0x30 ∷ 0x30 ∷ 0x20 ∷ 0x30 ∷ 0x78 ∷ 0x30 ∷ 0x32 ∷ 0x30 ∷ 0x30 ∷ 0x20
     ∷ 0x35 ∷ 0x30 ∷ 0x30 ∷ 0x30 ∷ 0x31 ∷ [])
     ≡ not_grammar
 unfolding within all_below lowered same_letter spells read_value
-section-4 = refl
+section_4 = refl
 
 -- `full 0200 0200 0G51`: G is no digit
-pub not-a-digit
+pub not_a_digit
     : read_value
     (0x66 ∷ 0x75 ∷ 0x6C ∷ 0x6C ∷ 0x20 ∷ 0x30 ∷ 0x32 ∷ 0x30 ∷ 0x30 ∷ 0x20 ∷ 0x30 ∷ 0x32 ∷ 0x30 ∷ 0x30 ∷ 0x20 ∷ 0x30 ∷ 0x47 ∷ 0x35 ∷ 0x31 ∷ [])
     ≡ not_grammar
 unfolding within all_below digit_value is_digit number read_digits lowered same_letter spells read_field read_limits read_value
-not-a-digit = refl
+not_a_digit = refl
 
 -- The premises of the theorems are met.
 

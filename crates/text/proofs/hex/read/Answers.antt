@@ -13,7 +13,8 @@ use Rattle.text.proofs.hex.read.Goals as goal
 
 pub returns-then-bytes-gt4 : goal.returns-then-bytes-gt4
 unfolding read_digits
-returns-then-bytes-gt4 c = let s = c.args.bytes.now in
+returns-then-bytes-gt4 c =
+    let s = c.args.bytes.now in
     let long : leb (length s) 4 ≡ false = lt-leb _ _ c.if-bytes-gt4.true in
     simp long
 
@@ -23,27 +24,29 @@ loop-k-init c = (omega arith, refl, refl, omega arith)
 
 pub returns-then-value-ge16 : goal.returns-then-value-ge16
 unfolding read_digits is_digit
-returns-then-value-ge16 c = let d = c.digit-value in
-    let t = c in
-    let s = t.args.bytes.now in
-    let k = t.loop-k.k in
+returns-then-value-ge16 c =
+    let d = c.digit-value in
+    let s = c.args.bytes.now in
+    let k = c.loop-k.k in
     simp (
-      le-leb (length s) 4 t.if-bytes-gt4.false,
-      one_below (is_digit s) (length s) k t.loop-k-test.true (rw (sym d.ensures) (le-ltb d.result 16 c.if-value-ge16.true)),
+      le-leb (length s) 4 c.if-bytes-gt4.false,
+      one_below (is_digit s) (length s) k c.loop-k-test.true (rw (sym d.ensures) (le-ltb d.result 16 c.if-value-ge16.true)),
     )
 
 pub overflow_mul-number : goal.overflow_mul-number
-overflow_mul-number c = let l = c.loop-k in omega (arith, four_small l.k l.number (omega arith) l.invariant.3)
+overflow_mul-number c =
+    let l = c.loop-k in omega (arith, four_small l.k l.number (omega arith) l.invariant.3)
 
 pub overflow_add-number : goal.overflow_add-number
-overflow_add-number c = let l = c.loop-k in omega (arith, four_small l.k l.number (omega arith) l.invariant.3)
+overflow_add-number c =
+    let l = c.loop-k in omega (arith, four_small l.k l.number (omega arith) l.invariant.3)
 
 pub loop-k-preserved : goal.loop-k-preserved
 unfolding is_digit
-loop-k-preserved c = let d = c.digit-value in
-    let t = c in
-    let s = t.args.bytes.now in
-    let l = t.loop-k in (
+loop-k-preserved c =
+    let d = c.digit-value in
+    let s = c.args.bytes.now in
+    let l = c.loop-k in (
       omega arith,
       below_next (is_digit s) l.k l.invariant.1 (rw (sym d.ensures) (lt-ltb d.result 16 c.if-value-ge16.false)),
       number_more s l.k l.number d.result l.invariant.2 d.ensures,
@@ -52,7 +55,8 @@ loop-k-preserved c = let d = c.digit-value in
 
 pub returns : goal.returns
 unfolding read_digits
-returns c = let l = c.loop-k in
+returns c =
+    let l = c.loop-k in
     let s = c.args.bytes.now in
     let e : l.k ≡ length s = omega arith in
     let all : all_below (length s) (is_digit s) ≡ true = rw e at l.invariant.1 in

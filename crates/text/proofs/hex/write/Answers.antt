@@ -9,17 +9,20 @@ use Rattle.text.proofs.Laws.Hex.{write_last}
 use Rattle.text.proofs.hex.write.Goals as goal
 
 pub loop-k-init : goal.loop-k-init
-loop-k-init c = let out = c.args.out.now in (omega arith, refl, rw (drop-length out) (append-nil _))
+loop-k-init c =
+    let out = c.args.out.now in (omega arith, refl, rw (drop-length out) (append-nil _))
 
 pub loop-k-preserved : goal.loop-k-preserved
-loop-k-preserved c = let l = c.loop-k in (
-  simp length-set (omega arith),
-  simp length-set l.invariant.1,
-  rw c.capital_digit.ensures (write_last l.k l.rest l.out (omega arith) (omega arith)) ∙ l.invariant.2,
-)
+loop-k-preserved c =
+    let l = c.loop-k in (
+      simp length-set (omega arith),
+      simp length-set l.invariant.1,
+      rw c.capital_digit.ensures (write_last l.k l.rest l.out (omega arith) (omega arith)) ∙ l.invariant.2,
+    )
 
 pub returns : goal.returns
 unfolding spell_digits
-returns c = let l = c.loop-k in
+returns c =
+    let l = c.loop-k in
     let z : l.k ≡ 0 = omega arith in
     rw z at l.invariant.2

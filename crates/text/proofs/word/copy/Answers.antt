@@ -32,12 +32,14 @@ pub loop-k-init : goal.loop-k-init
 loop-k-init c = (omega arith, refl, refl)
 
 pub loop-k-preserved : goal.loop-k-preserved
-loop-k-preserved c = let l = c.loop-k in
+loop-k-preserved c =
+    let l = c.loop-k in
     let a = c.args in
     let e : length (set l.out l.k (get_or a.word.now l.k 0)) ≡ length l.out = simp length-set in
     (omega arith, e ∙ l.invariant.1, step a.word.now a.out.now l.out l.k (omega arith) (omega arith) l.invariant.2)
 
 pub returns : goal.returns
-returns c = let l = c.loop-k in
+returns c =
+    let l = c.loop-k in
     let a = c.args in
     done a.word.now a.out.now l.out l.k (omega arith) (omega arith) l.invariant.2

@@ -19,21 +19,21 @@ loop-k-init c = (omega arith, refl)
 
 pub returns-then-small-word : goal.returns-then-small-word
 unfolding spells same_letter
-returns-then-small-word c = let r = c.small in
-    let t = c in
-    let k = t.loop-k.k in
-    let f = t in
-    let a = f.args in
+returns-then-small-word c =
+    let r = c.small in
+    let k = c.loop-k.k in
+    let a = c.args in
     let s = a.bytes.now in
     let w = a.word.now in
     simp (
-      eq-eqb (length s) (length w) f.if-bytes-word.false,
-      one_below (same_letter w s) (length w) k t.loop-k-test.true (rw (sym r.ensures) (ne_eqb r.result (get_or w k 0) c.if-small-word.true)),
+      eq-eqb (length s) (length w) c.if-bytes-word.false,
+      one_below (same_letter w s) (length w) k c.loop-k-test.true (rw (sym r.ensures) (ne_eqb r.result (get_or w k 0) c.if-small-word.true)),
     )
 
 pub loop-k-preserved : goal.loop-k-preserved
 unfolding same_letter
-loop-k-preserved c = let r = c.small in
+loop-k-preserved c =
+    let r = c.small in
     let l = c.loop-k in
     let a = c.args in
     let s = a.bytes.now in
@@ -42,11 +42,11 @@ loop-k-preserved c = let r = c.small in
 
 pub returns : goal.returns
 unfolding spells
-returns c = let l = c.loop-k in
-    let f = c in
-    let a = f.args in
+returns c =
+    let l = c.loop-k in
+    let a = c.args in
     let s = a.bytes.now in
     let w = a.word.now in
     let e : l.k ≡ length w = omega arith in
     let all : all_below (length w) (same_letter w s) ≡ true = rw e at l.invariant.1 in
-    simp (eq-eqb (length s) (length w) f.if-bytes-word.false, all)
+    simp (eq-eqb (length s) (length w) c.if-bytes-word.false, all)
