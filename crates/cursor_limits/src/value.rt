@@ -2,14 +2,14 @@
 use wire::status::Status;
 
 // xor-support: whether the sink can do the XOR operation of monochrome and color mask cursors.
-#[derive(Drop)]
+#[derive(Clone, Copy)]
 pub enum Xor {
     None,
     Full,
 }
 
 // The largest cursor that the sink supports, in pixels (x-max and y-max), and the UDP port that it is sent to.
-#[derive(Drop)]
+#[derive(Clone, Copy)]
 pub struct Limits {
     pub xor: Xor,
     pub width: u16,
@@ -18,14 +18,14 @@ pub struct Limits {
 }
 
 // The record of a value: the sink doesn't support the extension, or its limits.
-#[derive(Drop)]
+#[derive(Clone, Copy)]
 pub enum Value {
     NotSupported,
     Supported(Limits),
 }
 
 // What reading gives. The place of a refusal is always 0.
-#[derive(Drop)]
+#[derive(Clone, Copy)]
 pub enum Answer {
     Accepted(Value),
     Refused { status: Status, place: usize },

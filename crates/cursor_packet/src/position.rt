@@ -12,7 +12,7 @@ use super::{frame, rtp};
 use wire::status::Status;
 use wire::{number, signed, status};
 
-#[derive(Drop)]
+#[derive(Clone, Copy)]
 pub struct Position {
     pub sequence: u16,
     pub x: i16,
@@ -25,7 +25,7 @@ impl Position {
     pub const SIZE: u16 = 7;
 }
 
-#[derive(Drop)]
+#[derive(Clone, Copy)]
 pub enum PositionAnswer {
     Accepted(Position),
     Refused { status: Status, place: usize },

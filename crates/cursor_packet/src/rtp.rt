@@ -5,7 +5,7 @@ ghost use Rattle.cursor_packet.specs.Rtp.{rtp_holds, rtp_of};
 use wire::number;
 
 // The field of the header that differs from packet to packet.
-#[derive(Drop)]
+#[derive(Clone, Copy)]
 pub struct Rtp {
     pub sequence: u16,
 }

@@ -12,7 +12,7 @@ use wire::{status, written};
 
 // Of a reader and of the calls for cursor packets: the place of a refusal.
 #[repr(C)]
-#[derive(Drop)]
+#[derive(Clone, Copy)]
 pub struct Answer {
     pub status: u8,
     pub place: usize,
@@ -20,7 +20,7 @@ pub struct Answer {
 
 // Of a writer: the number of bytes written, 0 where it refused.
 #[repr(C)]
-#[derive(Drop)]
+#[derive(Clone, Copy)]
 pub struct Written {
     pub status: u8,
     pub size: usize,
@@ -28,7 +28,7 @@ pub struct Written {
 
 // Of a step of the session: whether the host shall check the PIN, and the place of a refusal.
 #[repr(C)]
-#[derive(Drop)]
+#[derive(Clone, Copy)]
 pub struct Step {
     pub status: u8,
     pub check: bool,
@@ -37,7 +37,7 @@ pub struct Step {
 
 // A number asked for, 0 where there is none.
 #[repr(C)]
-#[derive(Drop)]
+#[derive(Clone, Copy)]
 pub struct Number {
     pub status: u8,
     pub value: u16,
@@ -45,7 +45,7 @@ pub struct Number {
 
 // A question answered by yes or no; no where it is refused.
 #[repr(C)]
-#[derive(Drop)]
+#[derive(Clone, Copy)]
 pub struct Yes {
     pub status: u8,
     pub yes: bool,

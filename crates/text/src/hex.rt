@@ -3,7 +3,7 @@ ghost use Rattle.std.specs.Prelude.{◌≡◌, ◌<◌, length};
 ghost use Rattle.text.specs.Hex.{digit_of, digit_value, read_digits, spell_digits};
 
 // What bytes say as hexadecimal digits.
-#[derive(Drop)]
+#[derive(Clone, Copy)]
 pub enum Digits {
     Number(u16),
     NotHexadecimal,
