@@ -168,6 +168,7 @@ fn refused(status: Status) -> Parsed
 
 // A fragment after its header and type: PacketMsgSize below 18 for a start, below 13 for a continuation, 2; too few bytes 1; too many 2; negative
 // offset, or offset plus data beyond the total, 9. Total and offset are read once, for the check and for the fragment.
+#[tactic(auto, unfolding(crate::specs::Parsing::body_checks, crate::specs::Parsing::parsed_as, crate::specs::Parsing::refused_as, wire::specs::Checks::first_of))]
 fn parse_body(packet: &[u8], starts: bool) -> Parsed
     ensures { result ≡ parsed_as (first_of (body_checks starts packet.now)) (fragment_as starts packet.now) }
 {

@@ -58,10 +58,10 @@ unfolding image_data
 data_length starts p size e = length-drop (12 + header_length starts) p ∙ rw e (let m : (12 + size) - (12 + header_length starts) ≡ size - header_length starts = omega arith in m)
 
 -- check 9 as the code has it
-pub body-outside
+pub body_outside
     : (starts : Bool) (p : List ℕ) (size : ℕ) → length p ≡ 12 + size
     → is_outside starts p ≡ outside (signed 4 (offset_bits starts p)) (size - header_length starts) (number 4 p 15)
-body-outside starts p size e = rw (data_length starts p size e)
+body_outside starts p size e = rw (data_length starts p size e)
 
 -- the checks on the frame, then 9
 module _ (starts : Bool) (p : List ℕ) where
@@ -73,11 +73,11 @@ module _ (starts : Bool) (p : List ℕ) where
   unfolding refusing fragment_checks fragment_frame frame_checks
   checks_refuse = refl
 
-  pub checks-are
+  pub checks_are
       : first_of (fragment_checks starts p)
       ≡ cond (accepted (first_of (fragment_frame starts p))) (cond (is_outside starts p) status.OutsideImage status.Accepted) (first_of (fragment_frame starts p))
   unfolding fragment_checks first_of
-  checks-are = first_append (fragment_frame starts p) (refuse status.OutsideImage (is_outside starts p) ∷ []) frame_refuses
+  checks_are = first_append (fragment_frame starts p) (refuse status.OutsideImage (is_outside starts p) ∷ []) frame_refuses
 
 -- an accepted packet passed check 9
 passed : (s : Status) (b : Bool) → accepted (cond (accepted s) (cond b status.OutsideImage status.Accepted) s) ≡ true → b ≡ false
@@ -96,7 +96,7 @@ is_place (negsuc k) n t e = absurd (false≢true (sym e))
 module _ (p : List ℕ) (h : accepted (fragment_status p) ≡ true) where
   nine : (offset_of (is_start p) p ≡ pos (place_of (offset_of (is_start p) p))) × (place_of (offset_of (is_start p) p) + length (data_of p) ≤ number 4 p 15)
   nine = is_place (offset_of (is_start p) p) (length (data_of p)) (number 4 p 15)
-      (passed (first_of (fragment_frame (is_start p) p)) (is_outside (is_start p) p) (ap accepted (sym (checks-are (is_start p) p)) ∙ h))
+      (passed (first_of (fragment_frame (is_start p) p)) (is_outside (is_start p) p) (ap accepted (sym (checks_are (is_start p) p)) ∙ h))
 
 pub offset_kept : OffsetKept
 unfolding OffsetKept fragment_as
