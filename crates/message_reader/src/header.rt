@@ -7,7 +7,7 @@ use wire::number::u16_at;
 use wire::status::Status;
 
 // What the first bytes say of a message's size: its Size, which counts the header, or the refusal.
-#[derive(Drop)]
+#[derive(Clone, Copy)]
 pub enum Size {
     Declared(usize),
     Refused { status: Status },

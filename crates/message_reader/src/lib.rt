@@ -14,14 +14,14 @@ use wire::status;
 use wire::status::Status;
 
 // What reading gives: the message's record, or the refusal and its place.
-#[derive(Drop)]
+#[derive(Clone, Copy)]
 pub enum Answer {
     Accepted(Message),
     Refused { status: Status, place: usize },
 }
 
 // The status of an answer, and the place that goes with it.
-#[derive(Drop)]
+#[derive(Clone, Copy)]
 pub struct StatusAt {
     pub status: Status,
     pub place: usize,

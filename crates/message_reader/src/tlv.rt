@@ -9,7 +9,7 @@ use wire::number::u16_at;
 use wire::status::Status;
 
 // What one TLV gives: its type and the length of its value, or the refusal, whose place is that of the TLV.
-#[derive(Drop)]
+#[derive(Clone, Copy)]
 pub(crate) enum Tlv {
     Right { kind: u8, len: usize },
     Refused { status: Status },

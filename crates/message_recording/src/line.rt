@@ -7,7 +7,7 @@ use message_reader::Answer;
 use wire::status::Status;
 
 // What the listing shows at a place: an accepted message, what the bytes there are refused with, or that there are none.
-#[derive(Drop)]
+#[derive(Clone, Copy)]
 pub enum Line {
     Message { command: u8, size: usize },
     Refused { status: Status },

@@ -6,7 +6,7 @@ use crate::record::Message;
 use wire::number::{u8_at, u16_at};
 
 // A Source ID, if there is one; if not, its bytes are 0.
-#[derive(Drop)]
+#[derive(Clone, Copy)]
 pub struct SourceId {
     pub present: bool,
     pub bytes: [u8; 16],

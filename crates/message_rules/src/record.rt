@@ -3,14 +3,14 @@
 ghost use Rattle.std.specs.Prelude.{◌≡◌};
 ghost use Rattle.message_rules.specs.Record.{field_of};
 // The value of a TLV: whether it is there, and its place and length in the lent bytes.
-#[derive(Drop)]
+#[derive(Clone, Copy)]
 pub struct Field {
     pub present: bool,
     pub at: u32,
     pub len: u32,
 }
 
-#[derive(Drop)]
+#[derive(Clone, Copy)]
 pub struct Message {
     pub command: u8,
     pub friendly_name: Field,
