@@ -96,11 +96,11 @@ over_first x fs out h =
     ∙ ap (λ (n : ℕ). (x ++ fs) ++ drop n out) both
 
 -- three fields, and the word right before them
-pub limits-written
+pub limits_written
     : (l : Limits) (out : List ℕ) → 19 ≤ length out
     → laid (spell_xor l.xor) (splice 4 (spell_fields (l.width ∷ l.height ∷ l.port ∷ [])) out) ≡ laid (spell_limits l) out
 unfolding spell_limits spell_fields
-limits-written l out room =
+limits_written l out room =
     let x = spell_xor l.xor in
     let fs = spell_fields (l.width ∷ l.height ∷ l.port ∷ []) in
     let one : length x ≡ 4 = length_xor l.xor in

@@ -20,11 +20,11 @@ module _ (supported x w h p : ℕ) where
   unfolding number_bytes
   length_numbers = simp (length-append, length_bytes)
 
-  pub numbers-written
+  pub numbers_written
       : (xs a b d e f : List ℕ) → 8 ≤ length xs → a ≡ written 1 supported 0 xs → b ≡ written 1 x 1 a → d ≡ written 2 w 2 b
       → e ≡ written 2 h 4 d → f ≡ written 2 p 6 e → f ≡ laid (number_bytes supported x w h p) xs
   unfolding number_bytes
-  numbers-written xs a b d e f room s t u v z =
+  numbers_written xs a b d e f room s t u v z =
       let first = next (nothing 0 xs) 1 supported s (omega arith) in
       let second = next first 1 x t (omega arith) in
       let third = next second 2 w u (omega arith) in

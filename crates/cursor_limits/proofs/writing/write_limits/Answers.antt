@@ -6,7 +6,7 @@ use lib.ListN.{length}
 use Rattle.wire.proofs.Laws.Splice.{length_part, splice_none}
 use Rattle.wire.proofs.Laws.Laid.{length_laid}
 use Rattle.cursor_limits.specs.Writing.{spell_limits}
-use Rattle.cursor_limits.proofs.Laws.Writing.{length_limits, spell_fields, room_back, field_back, limits-written}
+use Rattle.cursor_limits.proofs.Laws.Writing.{length_limits, spell_fields, room_back, field_back, limits_written}
 use Rattle.cursor_limits.proofs.writing.write_limits.Goals as goal
 
 pub loop-i-init : goal.loop-i-init
@@ -33,7 +33,7 @@ returns c =
     let l = c.loop-i in
     let z : l.i ≡ 3 = omega arith in
     let fields = sym (splice_none 19 l.out) ∙ (rw z at l.invariant.2) in
-    rw (c.copy.ensures, c.word_of-word.ensures, fields) (limits-written c.args.limits c.args.out.now c.requires)
+    rw (c.copy.ensures, c.word_of-word.ensures, fields) (limits_written c.args.limits c.args.out.now c.requires)
 
 pub shape_of-out : goal.shape_of-out
 shape_of-out c =
