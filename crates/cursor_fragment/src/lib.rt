@@ -32,7 +32,7 @@ use wire::{number, status};
 
 // A start or a continuation, but for its data and a start's position, which is the pointer's. A start stands at offset 0; a continuation has
 // start fields 0.
-#[derive(Drop)]
+#[derive(Clone, Copy)]
 pub struct Fragment {
     pub sequence: u16,
     pub total: u32,
@@ -44,13 +44,13 @@ pub struct Fragment {
 
 // The status, and the fragment of an accepted packet. A struct, since the variants of an enum share bytes: the fields would be packed and
 // unpacked again.
-#[derive(Drop)]
+#[derive(Clone, Copy)]
 pub struct Parsed {
     pub status: Status,
     pub fragment: Fragment,
 }
 
-#[derive(Drop)]
+#[derive(Clone, Copy)]
 pub enum FragmentAnswer {
     Accepted(Fragment),
     Refused { status: Status, place: usize },

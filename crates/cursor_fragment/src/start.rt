@@ -14,7 +14,7 @@ use cursor_packet::position::Position;
 use wire::number;
 
 // A start's own fields, which its position is not among.
-#[derive(Drop)]
+#[derive(Clone, Copy)]
 pub struct Start {
     pub image_type: u8,
     pub hot_x: u16,

@@ -6,7 +6,7 @@ use super::{Picture, is_held};
 use scan::empty;
 use wire::status::Status;
 
-#[derive(Drop)]
+#[derive(Clone, Copy)]
 pub enum CompleteAnswer {
     Yes,
     No,

@@ -13,7 +13,7 @@ use cursor_fragment::start;
 use cursor_fragment::start::Start;
 
 // Where no picture is opened the other fields are not looked at; where no start was seen the start fields are not.
-#[derive(Drop)]
+#[derive(Clone, Copy)]
 pub struct Picture {
     pub opened: bool,
     pub id: u16,

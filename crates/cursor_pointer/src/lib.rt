@@ -9,7 +9,7 @@ use wire::status::Status;
 use wire::{sequence, status};
 
 // The pointer's last position, and the sequence number of the packet that set it. Where none is known the other fields are not looked at.
-#[derive(Drop)]
+#[derive(Clone, Copy)]
 pub struct Pointer {
     pub known: bool,
     pub sequence: u16,
@@ -32,13 +32,13 @@ impl Pointer {
 }
 
 // What a position packet does: the first refusal or Accepted, and the pointer afterwards.
-#[derive(Drop)]
+#[derive(Clone, Copy)]
 pub struct Positioned {
     pub status: Status,
     pub pointer: Pointer,
 }
 
-#[derive(Drop)]
+#[derive(Clone, Copy)]
 pub enum PointerAnswer {
     Accepted(Pointer),
     Refused { status: Status, place: usize },

@@ -14,21 +14,21 @@ use wire::status::Status;
 use wire::{sequence, status};
 
 // The status, and the picture's record afterwards. A struct, since the variants of an enum share bytes.
-#[derive(Drop)]
+#[derive(Clone, Copy)]
 pub struct Assembled {
     pub status: Status,
     pub picture: Picture,
 }
 
 // The records as an accepted fragment leaves them.
-#[derive(Drop)]
+#[derive(Clone, Copy)]
 pub struct Stored {
     pub pointer: Pointer,
     pub picture: Picture,
 }
 
 // What an accepted fragment leaves, or a refusal, which changes nothing.
-#[derive(Drop)]
+#[derive(Clone, Copy)]
 pub enum StoreAnswer {
     Accepted(Stored),
     Refused { status: Status, place: usize },

@@ -32,7 +32,7 @@ const UNREAD: u8 = 141;
 // Where the listing stands. Of the buffer's bytes, those from `from` to `to` are read and not listed yet; the first of them is at `place` of
 // the recording, and once the recording has `ended` no more follow. Of the lines, `used` bytes are not written yet. `going` is false after
 // the last line, and after an error. The `verdict` counts once it is.
-#[derive(Drop)]
+#[derive(Clone, Copy)]
 struct State {
     from: usize,
     to: usize,

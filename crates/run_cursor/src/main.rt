@@ -198,7 +198,7 @@ fn shapes() {
 }
 
 // What a host keeps: both records, and a picture and marks of five places.
-#[derive(Drop)]
+#[derive(Clone, Copy)]
 struct Small {
     pointer: [u8; pointer_layout::LENGTH],
     picture: [u8; picture_layout::LENGTH],

@@ -7,7 +7,7 @@ use cursor_limits::value::{Answer, Limits, Value, Xor};
 use wire::status;
 
 // The fields of a value.
-#[derive(Drop)]
+#[derive(Clone, Copy)]
 enum Field {
     Width,
     Height,

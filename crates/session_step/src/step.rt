@@ -9,7 +9,7 @@ use session_table::{source, table};
 use wire::status::Status;
 
 // What a step answers.
-#[derive(Drop)]
+#[derive(Clone, Copy)]
 pub struct Answer {
     // Accepted, or the refusal.
     pub status: Status,
@@ -20,7 +20,7 @@ pub struct Answer {
 }
 
 // The answer, and the session afterwards.
-#[derive(Drop)]
+#[derive(Clone, Copy)]
 pub struct Stepped {
     pub answer: Answer,
     pub session: Session,

@@ -4,7 +4,7 @@ ghost use Rattle.session_table.specs.Record.{fresh_session, is_open};
 
 use message_rules::accessors::SourceId;
 
-#[derive(Drop)]
+#[derive(Clone, Copy)]
 pub enum State {
     Waiting,
     Handshake,
@@ -14,7 +14,7 @@ pub enum State {
     Closed,
 }
 
-#[derive(Drop)]
+#[derive(Clone, Copy)]
 pub struct Session {
     pub state: State,
     // The first Source ID that an accepted event carried, if one did.

@@ -5,7 +5,7 @@ ghost use Rattle.session_table.specs.Table.{table, expected_of};
 use crate::record::State;
 
 // What an event does.
-#[derive(Drop)]
+#[derive(Clone, Copy)]
 pub enum Next {
     // No event has this number.
     NoEvent,
