@@ -46,6 +46,7 @@ impl Picture {
 }
 
 // Whether two records are the same in every field.
+#[tactic(auto, unfolding(crate::specs::Picture::same_picture))]
 pub fn same(a: Picture, b: Picture) -> bool
     ensures { result ≡ same_picture a b }
 {

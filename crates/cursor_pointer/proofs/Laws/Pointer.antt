@@ -4,7 +4,6 @@ use mathlib.Core.Path.{◌≡◌, refl, sym, ap, ◌∙◌}
 use mathlib.Core.Bool.{Bool, true, false, not, cond}
 use mathlib.Core.List.{List, [], ◌∷◌}
 use Rattle.wire.specs.Sequence.{distance, is_newer}
-use Rattle.wire.specs.declared.status.Status.{Status}
 use Rattle.wire.specs.declared.status.Status.TheVariants as status
 use Rattle.wire.specs.Checks.{refuse, first_of, accepted}
 use Rattle.cursor_packet.specs.Position.{position_checks, position_of}
@@ -18,31 +17,31 @@ use Rattle.cursor_pointer.specs.declared.PointerAnswer.{PointerAnswer}
 use Rattle.cursor_pointer.specs.declared.PointerAnswer.TheVariants.{Accepted, Refused}
 use Rattle.cursor_pointer.specs.Pointer.{pointer_moves, moved_to, position_status, positioned_to, moved_by, positioned, numbered, NumberByChecks, WrapMoves}
 
-pub position-status
+pub position_status_lem
     : (p : Pointer) (packet : List ℕ)
     → position_status p packet
     ≡ cond (accepted (first_of (position_checks packet))) (cond (not (pointer_moves p (position_of packet).sequence)) status.NotNewer status.Accepted)
     (first_of (position_checks packet))
 unfolding position_status first_of
-position-status p packet = first_append (position_checks packet) (refuse status.NotNewer (not (pointer_moves p (position_of packet).sequence)) ∷ []) (checks_refuse packet)
+position_status_lem p packet = first_append (position_checks packet) (refuse status.NotNewer (not (pointer_moves p (position_of packet).sequence)) ∷ []) (checks_refuse packet)
 
 module _ (p : Pointer) (packet : List ℕ) where
-  pub moved-refused
+  pub moved_refused
       : accepted (first_of (position_checks packet)) ≡ false → moved_by p packet ≡ record { status = first_of (position_checks packet); pointer = p }
   unfolding moved_by
-  moved-refused n =
-      let t : position_status p packet ≡ first_of (position_checks packet) = position-status p packet ∙ simp n in
+  moved_refused n =
+      let t : position_status p packet ≡ first_of (position_checks packet) = position_status_lem p packet ∙ simp n in
       simp (t, n)
 
   module _ (a : accepted (first_of (position_checks packet)) ≡ true) where
     pub moved_late : pointer_moves p (position_of packet).sequence ≡ false → moved_by p packet ≡ record { status = status.NotNewer; pointer = p }
     unfolding moved_by
-    moved_late n = let t : position_status p packet ≡ status.NotNewer = position-status p packet ∙ simp (a, n) in simp t
+    moved_late n = let t : position_status p packet ≡ status.NotNewer = position_status_lem p packet ∙ simp (a, n) in simp t
 
     pub moved_moves : pointer_moves p (position_of packet).sequence ≡ true
         → moved_by p packet ≡ record { status = status.Accepted; pointer = positioned_to p packet }
     unfolding moved_by
-    moved_moves n = let t : position_status p packet ≡ status.Accepted = position-status p packet ∙ simp (a, n) in simp t
+    moved_moves n = let t : position_status p packet ≡ status.Accepted = position_status_lem p packet ∙ simp (a, n) in simp t
 
   -- the call for positions, by what the packet does
   module _ (m : Positioned) (e : m ≡ moved_by p packet) where
