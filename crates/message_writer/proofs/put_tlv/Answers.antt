@@ -16,8 +16,7 @@ use Rattle.wire.proofs.Laws.Written.{none, next, next_part}
 use Rattle.message_writer.proofs.Laws.Writing.{one_byte}
 use Rattle.scan.proofs.Laws.Bytes.{copied_all}
 use borrow.Author.Rules.{rules}
-use Rattle.message_writer.proofs.put_tlv.Statement.{statement}
-use Rattle.message_writer.proofs.put_tlv.Tie as tie
+use Rattle.message_writer.proofs.put_tlv.Goals as goal
 
 laid
     : (s : List ℕ) (kind : ℕ) (f : Field) (at n : ℕ) (xs ys zs vs : List ℕ) → kind < 256 → f.at + f.len ≤ length s → at + 3 + f.len ≤ length xs
@@ -33,25 +32,14 @@ laid s kind f at n xs ys zs vs small inside h p q v e =
     ∙ (next_part sized vs f.len long (ap (λ (to : ℕ). splice to vs zs) i) (omega arith)).all
     ∙ rw (v, one_byte kind small)
 
-returns : tie.Need-returns
-returns c =
-    let put-u8 = c.before.before.before.before.before.before.before.before.before.before.before.put-u8 in
-    let put-u16 = c.before.before.before.before.before.before.before.put-u16 in
-    let copy = c.before.before.copy in
-    let a = c.before.before.before.before.before.before.before.before.before.before.before.before.before.before.before.before.before.args in
+pub returns : goal.returns
+returns c = let a = c.args in
     let f = a.value in
     let e : f.at + f.len - f.at ≡ f.len = omega arith in
     let d = take (f.at + f.len - f.at) (drop f.at a.bytes.now) in
-    let p = take (a.at + 3 + f.len - (a.at + 3)) (drop (a.at + 3) put-u16.new.0) in
+    let p = take (a.at + 3 + f.len - (a.at + 3)) (drop (a.at + 3) c.put_u16.new.out) in
     let l : length p ≡ length d = search rules in (
       refl,
       laid a.bytes.now a.kind f a.at (a.at + 3 + f.len - (a.at + 3)) a.out.now _ _ _ (omega arith) (omega arith)
-          (omega arith) put-u8.ensures.1 put-u16.ensures.1 (rw e at (copy.ensures ∙ copied_all d p l)) (omega arith),
+          (omega arith) c.put_u8.ensures.bytes c.put_u16.ensures.bytes (rw e at (c.copy.ensures ∙ copied_all d p l)) (omega arith),
     )
-
-pub put-tlv-spec : {M : Type 1} → statement M
-put-tlv-spec =
-    tie.close
-    (tie.spec (λ c. search rules) (λ c. search rules) (λ c. search rules) (λ c. search rules) (λ c. search rules) (λ c κs. search rules)
-    (λ c. search rules) (λ c. search rules) (λ c κs. search rules) (λ c. search rules) (λ c. search rules) (λ c. search rules)
-    (λ c. search rules) (λ c. search rules) (λ c. search rules) (λ c κs. search rules) (λ c. search rules) returns)

@@ -10,9 +10,7 @@ use Rattle.wire.specs.Splice.{splice}
 use Rattle.message_writer.specs.Writing.{head_bytes}
 use Rattle.wire.proofs.Laws.Written.{none, next}
 use Rattle.message_writer.proofs.Laws.Writing.{one_byte}
-use borrow.Author.Rules.{rules}
-use Rattle.message_writer.proofs.put_head.Statement.{statement}
-use Rattle.message_writer.proofs.put_head.Tie as tie
+use Rattle.message_writer.proofs.put_head.Goals as goal
 
 laid
     : (size c : ℕ) (xs ys zs ds : List ℕ) → c < 256 → 4 ≤ length xs → ys ≡ written 2 size 0 xs → zs ≡ written 1 1 2 ys → ds ≡ written 1 c 3 zs
@@ -23,15 +21,6 @@ laid size c xs ys zs ds small h p q r =
     (next versioned 1 c r (omega arith)).all
     ∙ ap (λ (l : List ℕ). splice 0 l xs) (rw (append_assoc, one_byte 1 (omega arith), one_byte c small))
 
-returns : tie.Need-returns
-returns c =
-    let put-u16 = c.before.before.before.before.before.before.before.before.before.before.put-u16 in
-    let put-u8 = c.before.before.before.before.before.before.put-u8 in
-    let put-u82 = c.before.before.put-u82 in
-    let a = c.before.before.before.before.before.before.before.before.before.before.before.before.before.args in
-    laid a.size a.command a.out.now _ _ _ (omega arith) (omega arith) put-u16.ensures.1 put-u8.ensures.1 put-u82.ensures.1
-
-pub put-head-spec : {M : Type 1} → statement M
-put-head-spec =
-    tie.close
-    (tie.spec (λ c. search rules) (λ c κs. search rules) (λ c κs. search rules) (λ c κs. search rules) (λ c. search rules) returns)
+pub returns : goal.returns
+returns c = let a = c.args in
+    laid a.size a.command a.out.now _ _ _ (omega arith) (omega arith) c.put_u16.ensures.bytes c.put_u8.ensures.bytes c.put_u8-2.ensures.bytes
