@@ -128,6 +128,7 @@ fn pin_wrong(state: State) -> Next
 }
 
 // What the event does in the state.
+#[tactic(auto, unfolding(crate::specs::Table::expected_of, crate::specs::Table::is_event))]
 pub fn expected(event: u8, state: State) -> Next
     ensures { result ≡ expected_of event state }
 {
