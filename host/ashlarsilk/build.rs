@@ -1,5 +1,5 @@
-//! Links libashlarsilk.a, which `rt staticlib ashlarsilk` writes to target/staticlib at the
-//! repository's root. The environment variable ASHLARSILK_LIB_DIR names another folder.
+//! Links libashlarsilk.a, which `rt lib` in crates/ashlarsilk writes to the folder out there. The
+//! environment variable ASHLARSILK_LIB_DIR names another folder.
 
 use std::env;
 use std::path::{Path, PathBuf};
@@ -11,14 +11,14 @@ fn main() -> ExitCode {
     println!("cargo:rerun-if-env-changed={VARIABLE}");
     let folder = match env::var_os(VARIABLE) {
         Some(folder) => PathBuf::from(folder),
-        None => Path::new(env!("CARGO_MANIFEST_DIR")).join("../../target/staticlib"),
+        None => Path::new(env!("CARGO_MANIFEST_DIR")).join("../../crates/ashlarsilk/out"),
     };
     let archive = folder.join("libashlarsilk.a");
     println!("cargo:rerun-if-changed={}", archive.display());
     if !archive.is_file() {
         eprintln!(
-            "{} is not there: run `rt staticlib ashlarsilk` at the repository's root, or set \
-             {VARIABLE} to the folder of libashlarsilk.a",
+            "{} is not there: run `rt lib` in crates/ashlarsilk, or set {VARIABLE} to the folder of \
+             libashlarsilk.a",
             archive.display()
         );
         return ExitCode::FAILURE;
