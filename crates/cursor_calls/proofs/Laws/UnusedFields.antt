@@ -30,7 +30,7 @@ unfolding cursor_store pointer_left
 store_unused_ignored ps qs a b image marks d =
     let r = unused_ignored a b d in
     let left : (x : StoreAnswer) (bytes filled : List ℕ) → store_answered a x ps qs bytes filled ≡ store_answered b x ps qs bytes filled
-    = λ x bytes filled. elim x [
+    = λ x bytes filled. elim x as (λ (y : StoreAnswer). store_answered a y ps qs bytes filled ≡ store_answered b y ps qs bytes filled) [
       | store.Accepted y ↦ rw (moves_alike a b r (pointer_of ps))
       | store.Refused st place ↦ refl
     ] in
