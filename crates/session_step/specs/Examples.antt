@@ -61,12 +61,12 @@ abbrev pub strange_stop : Event
 strange_stop = record { number = 2; source = stranger; options = 0 }
 
 -- ClosedRefuses: Source Ready in Closed
-pub closed-refuses-met
+pub closed_refuses_met
     : ((session_in state.Closed).state ≡ state.Closed)
     × (is_event ready.number ≡ true)
     × (stepped (session_in state.Closed) ready ≡ refused status.UnexpectedEvent 0 (session_in state.Closed))
 unfolding step_of is_event other_source
-closed-refuses-met = (refl, refl, refl)
+closed_refuses_met = (refl, refl, refl)
 
 -- ClosedForGood: five events in Closed
 pub closed_for_good_met : ((session_in state.Closed).state ≡ state.Closed) × (run (session_in state.Closed) with_pin ≡ session_in state.Closed)
@@ -74,36 +74,36 @@ unfolding run step_of is_event other_source
 closed_for_good_met = (refl, refl)
 
 -- RefusalKeeps: Source Ready in PinWait is 14 and closes; Stop Projection of another source is 15 there and changes nothing
-pub refusal-keeps-met
+pub refusal_keeps_met
     : (is_accepted (session_in state.PinWait) ready ≡ false)
     × (stepped (session_in state.PinWait) ready ≡ refused status.UnexpectedEvent 0 (closed (session_in state.PinWait)))
     × (is_accepted (session_in state.PinWait) strange_stop ≡ false)
     × (stepped (session_in state.PinWait) strange_stop ≡ refused status.OtherSource 0 (session_in state.PinWait))
 unfolding step_of is_event other_source known_command carried same_bytes all_below
-refusal-keeps-met = (refl, refl, refl, refl)
+refusal_keeps_met = (refl, refl, refl, refl)
 
 -- KeptForGood: the sender's Source ID after six events, the first of another source
-pub kept-for-good-met
+pub kept_for_good_met
     : ((session_in state.Handshake).source.present ≡ true)
     × ((run (session_in state.Handshake) (strange_stop ∷ with_pin)).source ≡ sender)
 unfolding run step_of is_event other_source known_command carried same_bytes all_below
-kept-for-good-met = (refl, refl)
+kept_for_good_met = (refl, refl)
 
 -- OtherChangesNothing: Stop Projection of another source, 15 in Projecting and 14 in Closed
-pub other-changes-nothing-met
+pub other_changes_nothing_met
     : (sender.present ≡ true)
     × (carried strange_stop.number stranger ≡ true)
     × (same_bytes sender.bytes stranger.bytes ≡ false)
     × (stepped (session_in state.Projecting) strange_stop ≡ refused status.OtherSource 0 (session_in state.Projecting))
     × (stepped (session_in state.Closed) strange_stop ≡ refused status.UnexpectedEvent 0 (session_in state.Closed))
 unfolding step_of is_event other_source known_command carried same_bytes all_below
-other-changes-nothing-met = (refl, refl, refl, refl, refl)
+other_changes_nothing_met = (refl, refl, refl, refl, refl)
 
 -- SourceUnseen: handshake done, beside the Source ID of another source and beside none
-pub source-unseen-met
+pub source_unseen_met
     : (known_command 7 ≡ false) × (step_of (session_in state.Handshake) 7 stranger 0 ≡ step_of (session_in state.Handshake) 7 no_source 0)
 unfolding step_of is_event other_source known_command carried accepted source_after
-source-unseen-met = (refl, refl)
+source_unseen_met = (refl, refl)
 
 -- OptionsUnseen: Source Ready in Waiting, beside options 3 and 0
 pub options_unseen_met : (◌≡◌ {A = ℕ} 1 4 → ⊥) × (step_of fresh_session 1 sender 3 ≡ step_of fresh_session 1 sender 0)
@@ -111,15 +111,15 @@ unfolding step_of is_event other_source known_command carried accepted source_af
 options_unseen_met = (λ e. omega arith, refl)
 
 -- ReachedByReady: Source Ready in ReadyWait
-pub reached-by-ready-met
+pub reached_by_ready_met
     : ((next (session_in state.ReadyWait) ready).state ≡ state.Projecting) × (is_accepted (session_in state.ReadyWait) ready ≡ true)
 unfolding step_of is_event other_source known_command carried same_bytes all_below accepted
-reached-by-ready-met = (refl, refl)
+reached_by_ready_met = (refl, refl)
 
 -- PinBeforeProjecting: the session with a PIN
-pub pin-before-projecting-met
+pub pin_before_projecting_met
     : ((run fresh_session with_pin).state ≡ state.Projecting)
     × (wants_pin (run fresh_session with_pin).options ≡ true)
     × (pin_right fresh_session with_pin ≡ true)
 unfolding run pin_right step_of is_event other_source known_command carried same_bytes all_below accepted source_after options_from pin_or_ready wants_pin
-pin-before-projecting-met = (refl, refl, refl)
+pin_before_projecting_met = (refl, refl, refl)

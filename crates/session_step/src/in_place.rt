@@ -15,8 +15,7 @@ pub fn step_in_place(session: &mut Session, event: u8, source: SourceId, options
     after.answer
 }
 
-// The same for a caller that has the session by value: it goes into a record here, which is lent. Only here, since a function that lends a record
-// is proved by hand.
+// The same for a caller that has the session by value: it goes into a record here, which is lent.
 pub fn lend_and_step(session: Session, event: u8, source: SourceId, options: u8) -> Stepped
     ensures { result ≡ step_of session event source options }
 {

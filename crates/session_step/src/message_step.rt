@@ -10,6 +10,7 @@ use session_table::record::Session;
 
 // Reads the message in `bytes`, and steps with its command, Source ID and option byte. The reader's refusal is passed on with its place, and
 // the session stays.
+#[tactic(auto, unfolding(crate::specs::Message::on_message))]
 pub fn on_message(session: Session, bytes: &[u8]) -> Stepped
     ensures { result ≡ on_message session bytes.now }
 {

@@ -27,6 +27,7 @@ pub struct Stepped {
 }
 
 // Where a handshake leads: the PIN option is bit 02 hex of the option byte, SinkDisplaysPin (001 section 2.2.7.5).
+#[tactic(auto, unfolding(crate::specs::Step::pin_or_ready, crate::specs::Step::wants_pin))]
 fn pin_or_ready(options: u8) -> State
     ensures { result ≡ pin_or_ready options }
 {
@@ -38,6 +39,7 @@ fn pin_or_ready(options: u8) -> State
 }
 
 // The options after an accepted event in Waiting: a Session Request brings them, a Security Handshake sets 0.
+#[tactic(auto, unfolding(crate::specs::Step::options_from))]
 fn options_from(event: u8, kept: u8, options: u8) -> u8
     ensures { result ≡ options_from event kept options }
 {
@@ -63,6 +65,7 @@ fn options_after(state: State, event: u8, kept: u8, options: u8) -> u8
 }
 
 // The Source ID after an accepted event: the first that one carried.
+#[tactic(auto, unfolding(crate::specs::Step::source_after))]
 fn source_after(kept: SourceId, event: u8, source: SourceId) -> SourceId
     ensures { result ≡ source_after kept event source }
 {
@@ -76,6 +79,7 @@ fn source_after(kept: SourceId, event: u8, source: SourceId) -> SourceId
 }
 
 // An event is accepted and leads to a state.
+#[tactic(auto, unfolding(crate::specs::Step::accepted))]
 fn accept(
     session: Session,
     to: State,

@@ -129,10 +129,10 @@ refusal_keeps s e r = by (way s e)
     by (taken known t check q) = never (sym (taken_accepted s e (entry s e) check q) ∙ r)
 
 -- what becomes of the Source ID
-source-next
+source_next
     : (s : Session) (e : Event) → (next s e).source ≡ cond (is_accepted s e) (source_after s.source e.number e.source) s.source
 unfolding accepted
-source-next s e = by (way s e)
+source_next s e = by (way s e)
   where
     at : (r : Stepped) → stepped s e ≡ r → r.session.source ≡ cond (eqb (number_of r.answer.status) 0) (source_after s.source e.number e.source) s.source
         → (next s e).source ≡ cond (is_accepted s e) (source_after s.source e.number e.source) s.source
@@ -149,10 +149,10 @@ unfolding carried
 carried_present event x e = (both x.present _ e).0
 
 -- the Source ID stays where it stays the same whether one is kept
-after-stays
+after_stays
     : (kept : SourceId) (event : ℕ) (x : SourceId) → kept.present ≡ (source_after kept event x).present → kept ≡ source_after kept event x
 unfolding source_after
-after-stays kept event x h = by kept.present (carried event x) refl refl
+after_stays kept event x h = by kept.present (carried event x) refl refl
   where
     by : (p q : Bool) → kept.present ≡ p → carried event x ≡ q → kept ≡ source_after kept event x
     by true q e f = simp e
@@ -162,16 +162,16 @@ after-stays kept event x h = by kept.present (carried event x) refl refl
     by false false e f = simp (e, f)
 
 pub source_stays : (s : Session) (e : Event) → s.source.present ≡ (next s e).source.present → s.source ≡ (next s e).source
-source_stays s e h = by (is_accepted s e) (h ∙ ap (λ (y : SourceId). y.present) (source-next s e)) ∙ sym (source-next s e)
+source_stays s e h = by (is_accepted s e) (h ∙ ap (λ (y : SourceId). y.present) (source_next s e)) ∙ sym (source_next s e)
   where
     by : (b : Bool) → s.source.present ≡ (cond b (source_after s.source e.number e.source) s.source).present
         → s.source ≡ cond b (source_after s.source e.number e.source) s.source
-    by true = after-stays s.source e.number e.source
+    by true = after_stays s.source e.number e.source
     by false = λ h. refl
 
 kept_next : (s : Session) (e : Event) → s.source.present ≡ true → (next s e).source ≡ s.source
 unfolding source_after
-kept_next s e p = source-next s e ∙ by (is_accepted s e)
+kept_next s e p = source_next s e ∙ by (is_accepted s e)
   where
     by : (b : Bool) → cond b (source_after s.source e.number e.source) s.source ≡ s.source
     by true = simp p
@@ -185,12 +185,12 @@ kept_for_good s (e ∷ l) p =
     kept_for_good (next s e) l (ap (λ (x : SourceId). x.present) k ∙ p) ∙ k
 
 -- a session that has kept no Source ID keeps the first
-none-next
+none_next
     : (s : Session) (e : Event) → s.source ≡ no_source
     → (next s e).source ≡ cond (is_accepted s e && carried e.number e.source) e.source no_source
 unfolding source_after
-none-next s e p =
-    source-next s e
+none_next s e p =
+    source_next s e
     ∙ ap (λ (x : SourceId). cond (is_accepted s e) (source_after x e.number e.source) x) p
     ∙ by (is_accepted s e)
   where
@@ -209,10 +209,10 @@ first_kept s (e ∷ l) p = by (is_accepted s e && carried e.number e.source) ref
         → ((next s e).source ≡ no_source → (run (next s e) l).source ≡ first_source (next s e) l)
         → (run (next s e) l).source ≡ cond (is_accepted s e && carried e.number e.source) e.source (first_source (next s e) l)
     by true h rest =
-        let k : (next s e).source ≡ e.source = none-next s e p ∙ simp h in
+        let k : (next s e).source ≡ e.source = none_next s e p ∙ simp h in
         let there = carried_present e.number e.source (both (is_accepted s e) (carried e.number e.source) h).1 in
         kept_for_good (next s e) l (ap (λ (x : SourceId). x.present) k ∙ there) ∙ k ∙ simp h
-    by false h rest = rest (none-next s e p ∙ simp h) ∙ simp h
+    by false h rest = rest (none_next s e p ∙ simp h) ∙ simp h
 
 pub first_is_kept : FirstIsKept
 unfolding FirstIsKept

@@ -35,11 +35,11 @@ pub step_other
 unfolding step_of
 step_other s event x options e = simp (other_event s event x e, e)
 
-pub step-table
+pub step_table
     : (s : Session) (event : ℕ) (x : SourceId) (options : ℕ) → other_source s event x ≡ false
     → step_of s event x options ≡ follow (expected_of event s.state) s event x options
 unfolding step_of expected_of
-step-table s event x options e = by (is_event event) refl
+step_table s event x options e = by (is_event event) refl
   where
     by : (b : Bool) → is_event event ≡ b
         → cond (not (is_event event)) (refused status.UnknownKind 0 s)

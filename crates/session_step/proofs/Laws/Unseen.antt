@@ -30,11 +30,11 @@ followed ToProjecting s event x y a b h = h state.Projecting false
 followed ToClosed s event x y a b h = h state.Closed false
 
 -- so does a step, but for the test of another source
-Stepped-same
+stepped_same
     : (s : Session) (event : ℕ) (x y : SourceId) (a b : ℕ) → other_source s event x ≡ other_source s event y
     → ((to : State) (check : Bool) → accepted s to check event x a ≡ accepted s to check event y b) → step_of s event x a ≡ step_of s event y b
 unfolding step_of
-Stepped-same s event x y a b o h = rw (o, followed (table s.state event) s event x y a b h)
+stepped_same s event x y a b o h = rw (o, followed (table s.state event) s event x y a b h)
 
 none_carried : (event : ℕ) (x : SourceId) → known_command event ≡ false → carried event x ≡ false
 unfolding carried
@@ -45,7 +45,7 @@ unfolding SourceUnseen other_source accepted source_after
 source_unseen s event x y options e =
     let none : carried event x ≡ false = none_carried event x e in
     let none_other : carried event y ≡ false = none_carried event y e in
-    Stepped-same s event x y options options (simp (none, none_other)) (λ to check. simp (none, none_other))
+    stepped_same s event x y options options (simp (none, none_other)) (λ to check. simp (none, none_other))
 
 options_unseen_after : (st : State) (event kept a b : ℕ) → (event ≡ 4 → ⊥) → options_after st event kept a ≡ options_after st event kept b
 unfolding options_from
@@ -59,4 +59,4 @@ options_unseen_after state.Closed event kept a b h = refl
 pub options_unseen : OptionsUnseen
 unfolding OptionsUnseen accepted
 options_unseen s event x a b h =
-    Stepped-same s event x x a b refl (λ to check. rw (options_unseen_after s.state event s.options a b h))
+    stepped_same s event x x a b refl (λ to check. rw (options_unseen_after s.state event s.options a b h))
