@@ -147,7 +147,8 @@ fn replay<R: Read>(stream: &mut R) {
 
 fn main(rt: HostRuntime) {
     let mut bytes = [0u8; 4096];
-    let Some(path) = print::argument(&rt, 1, &mut bytes, "replay: a stream's file name is needed") else {
+    let Some(path) = print::argument(&rt, 1, &mut bytes, "replay: a stream's file name is needed")
+    else {
         return;
     };
     match fs::open(&rt, path) {
