@@ -13,5 +13,5 @@ returns-then-packet-lt-HEADER c = simp (lt-leb 12 _ c.if-packet-lt-HEADER.true)
 
 pub returns : goal.returns
 unfolding rtp_holds
-returns c = let small : Bytes c.args.packet.now = λ (i : ℕ). omega (arith, c.shared_slice_known-1.given i) in
+returns c = let small : Bytes c.args.packet.now = λ (i : ℕ). omega (arith, c.type_inv.packet i) in
     simp (le-leb 12 _ c.if-packet-lt-HEADER.false) (rw c.u16_at.ensures (first_two c.args.packet.now 0x80 0 small (omega arith)))
