@@ -35,12 +35,12 @@ unfolding session_step lent_enough known_command bytes_left same_session same_by
 lost_with_five_bytes = refl
 
 -- A number that is no event is 4, with five bytes too; with a short record it is 10.
-pub no-event-with-five-bytes
+pub no_event_with_five_bytes
     : (session_step (record_of 4 7) 11 (replicate 5 8) 0 ≡ step_result (answer 4 false) (record_of 4 7))
     × (session_step (replicate 18 0) 11 (replicate 5 8) 0 ≡ step_result (answer 10 false) (replicate 18 0))
 unfolding session_step lent_enough known_command bytes_left same_session same_bytes all_below source_in step_of is_event other_source carried session_of
     state_of number_at number_in id_at copied splice
-no-event-with-five-bytes = (refl, refl)
+no_event_with_five_bytes = (refl, refl)
 
 -- With a message five bytes are 10.
 pub message_with_five_bytes : session_step (record_of 4 7) 2 (replicate 5 8) 0 ≡ step_result (answer 10 false) (record_of 4 7)
@@ -57,10 +57,10 @@ challenge_keeps = refl
 -- (`SourceStays` is no theorem: it holds of every step, by proofs/Laws/SessionCalls.antt.)
 
 -- LentSourceUnseen: connection lost beside five bytes and beside none
-pub lent-source-unseen-met
+pub lent_source_unseen_met
     : (known_command 10 ≡ false) × (session_step (record_of 4 7) 10 (replicate 5 8) 0 ≡ session_step (record_of 4 7) 10 [] 0)
 unfolding session_step lent_enough known_command source_in
-lent-source-unseen-met = (refl, refl)
+lent_source_unseen_met = (refl, refl)
 
 fourteen : ◌≡◌ {A = ℕ} 14 0 → ⊥
 fourteen e = omega arith
@@ -73,21 +73,21 @@ one e = omega arith
 
 -- StepRefusalKeeps: Source Ready (1) in Projecting is 14 and writes Closed to the state alone; Stop Projection (2) of another source is 15 and
 -- writes nothing
-pub step-refusal-keeps-met
+pub step_refusal_keeps_met
     : ((session_step (record_of 4 7) 1 (replicate 16 5) 0).answer.status ≡ 0 → ⊥)
     × (session_step (record_of 4 7) 1 (replicate 16 5) 0 ≡ step_result (answer 14 false) (record_of 5 7))
     × ((session_step (record_of 4 7) 2 (replicate 16 8) 0).answer.status ≡ 0 → ⊥)
     × (session_step (record_of 4 7) 2 (replicate 16 8) 0 ≡ step_result (answer 15 false) (record_of 4 7))
 unfolding session_step lent_enough known_command bytes_left same_session same_bytes all_below source_in step_of is_event other_source carried session_of
     state_of number_at number_in id_at copied splice written_in bytes_in
-step-refusal-keeps-met = (fourteen, refl, fifteen, refl)
+step_refusal_keeps_met = (fourteen, refl, fifteen, refl)
 
 -- a Security Handshake with a token of one byte
 abbrev pub handshake : List ℕ
 handshake = 0 ∷ 8 ∷ 1 ∷ 3 ∷ 4 ∷ 0 ∷ 1 ∷ 42 ∷ []
 
 -- MessageRefusalKeeps: in Projecting it is 14; no bytes are 1
-pub message-refusal-keeps-met
+pub message_refusal_keeps_met
     : ((session_message (record_of 4 7) handshake).answer.status ≡ 0 → ⊥)
     × (session_message (record_of 4 7) handshake ≡ step_result (answer 14 false) (record_of 5 7))
     × ((session_message (record_of 4 7) []).answer.status ≡ 0 → ⊥)
@@ -95,4 +95,4 @@ pub message-refusal-keeps-met
 unfolding session_message on_message bytes_left same_session same_bytes all_below step_of is_event other_source carried session_of state_of
     number_at number_in id_at copied splice written_in bytes_in roles_of role_of lengths_of length_in length_ok known_command field_of with_field empty_of
     source_of options_of header_status tlv_at has_needed is_complete last_of tlvs_from read_message first_of
-message-refusal-keeps-met = (fourteen, refl, one, refl)
+message_refusal_keeps_met = (fourteen, refl, one, refl)

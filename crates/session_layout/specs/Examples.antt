@@ -32,20 +32,20 @@ abbrev pub lent : List ℕ
 lent = replicate 20 255
 
 -- SessionReadsBack: over them, of which the last stays
-pub session-reads-back-met
+pub session_reads_back_met
     : (projecting.options < 256)
     × (length projecting.source.bytes ≡ 16)
     × (19 ≤ length lent)
     × (laid (session_bytes projecting) lent ≡ session_bytes projecting ++ (255 ∷ []))
     × (session_of (laid (session_bytes projecting) lent) ≡ projecting)
 unfolding session_of state_of number_at number_in id_at copied splice session_bytes bytes_in laid
-session-reads-back-met = (omega arith, refl, omega arith, refl, refl)
+session_reads_back_met = (omega arith, refl, omega arith, refl, refl)
 
 -- SameIsEqual: what reads back is the same; another state is not
-pub same-is-equal-met
+pub same_is_equal_met
     : (length (session_of (4 ∷ 3 ∷ 9 ∷ replicate 16 7)).source.bytes ≡ 16)
     × (length projecting.source.bytes ≡ 16)
     × (same_session (session_of (4 ∷ 3 ∷ 9 ∷ replicate 16 7)) projecting ≡ true)
     × (same_session (session_of (3 ∷ 3 ∷ 9 ∷ replicate 16 7)) projecting ≡ false)
 unfolding session_of state_of number_at number_in id_at copied splice same_session same_bytes all_below
-same-is-equal-met = (refl, refl, refl, refl)
+same_is_equal_met = (refl, refl, refl, refl)

@@ -20,6 +20,7 @@ use wire::little_endian::{put_u8, u8_at};
 pub const LENGTH: usize = 19;
 
 // The state with this number.
+#[tactic(auto, unfolding(crate::specs::SessionLayout::state_of))]
 fn state_of(number: u8) -> State
     ensures { result ≡ state_of number }
 {
@@ -77,6 +78,7 @@ fn put_id(record: &mut [u8], id: &[u8; 16])
 }
 
 // The session in the bytes.
+#[tactic(auto, unfolding(crate::specs::SessionLayout::session_of))]
 pub fn read(record: &[u8]) -> Session
     ensures { result ≡ session_of «record».now }
 {

@@ -42,12 +42,12 @@ open_number state.Projecting o = refl
 open_number state.Closed o = not_both true refl (sym o)
 
 -- a refused step closes an open session, or leaves it
-left-refused
+left_refused
     : (s : Session) (st : Status) (place : ℕ) (xs : List ℕ) → (number_of st ≡ 0 → ⊥) → (b : Bool) → (b ≡ true → is_open s.state ≡ true)
     → bytes_left s (refused st place (cond b (closed s) s)) xs ≡ cond b (written 1 (state_number state.Closed) 0 xs) xs
 unfolding bytes_left same_session SameAsItself
-left-refused s st place xs h true o = simp (open_number s.state (o refl), ne_eqb (number_of st) 0 h)
-left-refused s st place xs h false o = let same : same_session s s ≡ true = same_as_itself s in simp same
+left_refused s st place xs h true o = simp (open_number s.state (o refl), ne_eqb (number_of st) 0 h)
+left_refused s st place xs h false o = let same : same_session s s ≡ true = same_as_itself s in simp same
 
 -- the reader's refusals are 1 to 8
 fault_below : (bytes : List ℕ) (at : ℕ) (m : Message) (st : Status) → Fault bytes at m st → number_of st ≤ 8
@@ -76,7 +76,7 @@ module _ (xs : List ℕ) where
       let s = session_of xs in
       let n = number_of (status_of s e) in
       ap (λ (r : Stepped). bytes_left s r xs) (refusal_keeps s e (ne_eqb n 0 h))
-      ∙ left-refused s (status_of s e) 0 xs h (eqb n 14 && is_open s.state) (λ o. (both (eqb n 14) (is_open s.state) o).1)
+      ∙ left_refused s (status_of s e) 0 xs h (eqb n 14 && is_open s.state) (λ o. (both (eqb n 14) (is_open s.state) o).1)
 
   read_kept : (bytes : List ℕ) (a : Answer) → read_message bytes ≡ a → KeptIfRefused xs (result_on (after_read bytes (session_of xs) a) xs)
   unfolding KeptIfRefused
@@ -84,7 +84,7 @@ module _ (xs : List ℕ) where
   read_kept bytes (reader.Refused st place) e h =
       let small = reader_below bytes st place e in
       let other : eqb (number_of st) 14 ≡ false = ne_eqb (number_of st) 14 (λ f. omega arith) in
-      simp other (left-refused (session_of xs) st place xs h false (λ o. not_both true refl (sym o)))
+      simp other (left_refused (session_of xs) st place xs h false (λ o. not_both true refl (sym o)))
 
 pub step_refusal_keeps : StepRefusalKeeps
 unfolding StepRefusalKeeps session_step KeptIfRefused

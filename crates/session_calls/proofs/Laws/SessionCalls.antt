@@ -29,11 +29,11 @@ module _ (xs : List ℕ) (event : ℕ) (source : List ℕ) (options : ℕ) where
   unfolding session_step
   step_short e = simp e
 
-  pub step-taken
+  pub step_taken
       : lent_enough (length xs) event source ≡ true
       → session_step xs event source options ≡ result_on (step_of (session_of xs) event (source_in source) options) xs
   unfolding session_step
-  step-taken e = simp e
+  step_taken e = simp e
 
 -- a Source ID beside no message
 enough_unseen : (lent event : ℕ) (source : List ℕ) → known_command event ≡ false → lent_enough lent event source ≡ leb 19 lent
@@ -67,23 +67,23 @@ module _ (xs bytes : List ℕ) where
 -- ---- the same session
 
 -- what a step makes of a session, by an event and by a message
-pub event-stays
+pub event_stays
     : (s : Session) (event : ℕ) (source : SourceId) (options : ℕ) → SourceStays s (step_of s event source options).session
-event-stays s event source options = source_stays s (record { number = event; source = source; options = options })
+event_stays s event source options = source_stays s (record { number = event; source = source; options = options })
 
 pub message_stays : (s : Session) (bytes : List ℕ) → SourceStays s (on_message s bytes).session
 unfolding on_message
 message_stays s bytes = by (read_message bytes)
   where
     by : (a : Answer) → SourceStays s (after_read bytes s a).session
-    by (reader.Accepted m) = event-stays s m.command (source_of bytes m) (options_of bytes m)
+    by (reader.Accepted m) = event_stays s m.command (source_of bytes m) (options_of bytes m)
     by (reader.Refused st place) = λ h. refl
 
 -- the flag then decides on the Source ID
-pub flag-decides
+pub flag_decides
     : (a b : Session) → SourceStays a b
     → beq a.source.present b.source.present ≡ beq a.source.present b.source.present && same_bytes a.source.bytes b.source.bytes
-flag-decides a b h = by (beq a.source.present b.source.present) refl
+flag_decides a b h = by (beq a.source.present b.source.present) refl
   where
     by : (v : Bool) → beq a.source.present b.source.present ≡ v → v ≡ v && same_bytes a.source.bytes b.source.bytes
     by true e =

@@ -9,19 +9,13 @@ use lib.Seq.{length-take-le}
 use Rattle.wire.proofs.Laws.Splice.{part_back}
 use Rattle.scan.proofs.Laws.Bytes.{copied_all}
 use borrow.Author.Rules.{rules}
-use Rattle.session_layout.proofs.put_id.Statement.{statement}
-use Rattle.session_layout.proofs.put_id.Tie as tie
+use Rattle.session_layout.proofs.put_id.Goals as goal
 
-returns : tie.Need-returns
+pub returns : goal.returns
 returns c =
-    let k = c.before.before in
-    let a = k.before.before.before.before.args in
+    let a = c.args in
     let part = take 16 (drop 3 a.«record».now) in
     let n : length a.id.now ≡ 16 = search rules in
     let l : length part ≡ 16 = length-take-le 16 (drop 3 a.«record».now) (rw (length-drop 3 a.«record».now) (omega arith)) in
-    ap (λ (ds : List ℕ). put_mid 3 16 a.«record».now ds) (k.copy.ensures ∙ copied_all a.id.now part (l ∙ sym n))
+    ap (λ (ds : List ℕ). put_mid 3 16 a.«record».now ds) (c.copy.ensures ∙ copied_all a.id.now part (l ∙ sym n))
     ∙ part_back 3 16 a.«record».now a.id.now n
-
-pub put-id-spec : {M : Type 1} → statement M
-put-id-spec =
-    tie.close (tie.spec (λ c. search rules) (λ c. search rules) (λ c. search rules) (λ c κs. search rules) (λ c. search rules) returns)
