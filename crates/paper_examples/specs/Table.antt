@@ -29,7 +29,7 @@ use Rattle.cursor_fragment.specs.Fragment.{takes_type, header_length, image_data
 use Rattle.text.specs.declared.hex.Digits.{Digits}
 use Rattle.text.specs.declared.hex.Digits.TheVariants as hexadecimal
 use Rattle.text.specs.Range.{within}
-use Rattle.text.specs.Hex.{digit_value, is_digit, number as hexNumber, read_digits}
+use Rattle.text.specs.Hex.{digit_value, is_digit, number as hex_number, read_digits}
 
 -- A, the message of the table, after its Size: Version, Command, a Friendly Name, the RTSP Port 1C44, a Source ID of sixteen bytes 07
 after_size : List ℕ
@@ -149,6 +149,6 @@ unfolding
     roles_of role_of lengths_of length_in length_ok known_command field_of with_field empty_of header_status has_needed is_complete tlv_at last_of tlvs_from read_message port_of
     first_of rtp_holds frame_checks position_checks position_at read_position
     takes_type header_length image_data offset_bits outside fragment_frame fragment_checks
-    within digit_value is_digit hexNumber read_digits
+    within digit_value is_digit hex_number read_digits
     is_event carried other_source options_from source_after accepted step_of
 examples_hold = refl
