@@ -12,8 +12,8 @@ import re
 import sys
 
 TOKEN = re.compile(r"[^\s(){}.;,@\"«»`]+")
-DECLARED = re.compile(r"^(?:unfoldable |abbrev |pub )*(?:record |data |ruleset )?([^\s:(){}=]+)(?=[ \t]*[:({]|[ \t][^=\n]*[ \t]:)")
-MEMBER = re.compile(r"^[ \t]+(?:pub )?([^\s:(){}=]+) :(?= |$)")
+DECLARED = re.compile(r"^(?:unfoldable |abbrev |pub )*(?:record |data |ruleset )?([^\s:(){}=|]+)(?=[ \t]*[:({]|[ \t][^=\n]*[ \t]:|$)")
+MEMBER = re.compile(r"^[ \t]+(?:pub )?([^\s:(){}=]+)(?= :(?: |$)|$)")
 GOAL = re.compile(r"^(?:returns|loop|if|in|else|then|field|add|sub|mul)-\d+$")
 
 
@@ -36,16 +36,24 @@ def snake(name):
 
 
 def declared():
-    """The names declared at the head of a line, and the fields of records."""
+    """The names declared at the head of a line or in a module, and the fields of records."""
     names, fields = set(), set()
     for path in files("crates", ".antt"):
-        if os.path.basename(path) == "Proof.antt":
+        parts = path.split(os.sep)
+        if os.path.basename(path) == "Proof.antt" or parts[2] == "proofs" and len(parts) > 4 and parts[3] != "Laws":
             continue
+        within = ""
         for line in open(path, encoding="utf-8"):
-            for pattern, into in ((DECLARED, names), (MEMBER, fields)):
-                m = pattern.match(line)
-                if m and not GOAL.match(m[1]) and m[1] not in ("use", "let", "mod", "unfolding", "where"):
-                    into.add(m[1])
+            top = DECLARED.match(line)
+            if line[:1].strip():
+                within = line
+            m = top or MEMBER.match(line)
+            if not m or GOAL.match(m[1]) or m[1] in ("use", "let", "mod", "module", "unfolding", "where", "record", "data") or m[1].startswith("--"):
+                continue
+            if top or "record" in within or "data" in within:
+                (names if top else fields).add(m[1])
+            elif within.startswith(("module", "pub module")) and not m[0].endswith(m[1] + " ") and re.match(r" {2}(pub )?\S+( :|$)", line):
+                names.add(m[1])
     return names, fields
 
 
@@ -56,12 +64,11 @@ def table():
     definitions = {n for n in names if "-" not in n and snake(n) != n}
     for name in sorted(names, key=lambda n: (n not in definitions, "-" in n, n)):
         new = snake(name)
-        if name in definitions or new != name or new in taken:
+        if new != name:
             while new in taken:
                 new += "_lem"
-            if new != name:
-                rows[name] = new
-            taken.add(new)
+            rows[name] = new
+        taken.add(new)
     for name in fields - names:
         if snake(name) != name:
             rows[name] = snake(name)

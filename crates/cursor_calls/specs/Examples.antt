@@ -57,46 +57,46 @@ unfolding cursor_store records_whole stored assembled assembled_as store_status 
 store_refused = refl
 
 -- a continuation of the opened id is stored, and each byte of both records stays
-pub records-stay
+pub records_stay
     : called lent (last 32)
     ≡ after_store (record { status = 0; place = 0 }) lent.pointer lent.picture lent.image (0 ∷ 0 ∷ 0 ∷ 1 ∷ 7 ∷ [])
 unfolding cursor_store records_whole pointer_left picture_left same_picture same_start moves stored assembled assembled_as store_status store_checks held has_room judging opened_rules other_rules of_opened start_differs bytes_differ conflict_in some_below lesser is_newer distance opened_for cleared_for image_after marks_after with_start picture_after pointer_after splice fragment_checks fragment_frame first_of frame_checks rtp_holds number_in number_at signed takes_type header_length image_data start_of no_start start_in offset_bits place_of outside fragment_as picture_of pointer_of
-records-stay = refl
+records_stay = refl
 
 -- 02 §2: timestamp and SSRC filled, and wrong first bytes.
 
 -- PositionUnusedIgnored: P9, and P9 so filled, which is taken as P9 is
-pub position-filled
+pub position_filled
     : SameButUnused position9 (beginning 0x80 0)
     × (cursor_position (1 ∷ 4 ∷ 0 ∷ 0 ∷ 0 ∷ 0 ∷ 0 ∷ []) (beginning 0x80 0)
     ≡ after_position (record { status = 0; place = 0 }) (1 ∷ 5 ∷ 0 ∷ 0xfe ∷ 0xff ∷ 0x0a ∷ 0 ∷ []))
 unfolding cursor_position positioned position_status moved_to is_newer distance position_checks position_at first_of frame_checks rtp_holds number_in number_at bytes_in laid splice signed unsigned pointer_of pointer_bytes
-position-filled = (record { as_long = refl; before = refl; after = refl }, refl)
+position_filled = (record { as_long = refl; before = refl; after = refl }, refl)
 
 abbrev pub last_filled : List ℕ
 last_filled = filled 32 ++ (3 ∷ 0 ∷ 14 ∷ 0 ∷ 0 ∷ 0 ∷ 4 ∷ 0 ∷ 9 ∷ 0 ∷ 0 ∷ 0 ∷ 3 ∷ 68 ∷ [])
 
 -- StoreUnusedIgnored: the same continuation, and the same so filled
-pub store-filled
+pub store_filled
     : SameButUnused (last 32) last_filled
     × (called lent last_filled ≡ after_store (record { status = 0; place = 0 }) lent.pointer lent.picture lent.image (0 ∷ 0 ∷ 0 ∷ 1 ∷ 7 ∷ []))
 unfolding cursor_store records_whole pointer_left picture_left same_picture same_start moves stored assembled assembled_as store_status store_checks held has_room judging opened_rules other_rules of_opened start_differs bytes_differ conflict_in some_below lesser is_newer distance opened_for cleared_for image_after marks_after with_start picture_after pointer_after splice fragment_checks fragment_frame first_of frame_checks rtp_holds number_in number_at signed takes_type header_length image_data start_of no_start start_in offset_bits place_of outside fragment_as picture_of pointer_of
-store-filled = (record { as_long = refl; before = refl; after = refl }, refl)
+store_filled = (record { as_long = refl; before = refl; after = refl }, refl)
 
 -- PositionThreeExactly: the first byte is 81 hex
-pub position-three
+pub position_three
     : (pointer_length ≤ length lent.pointer) × WrongRtp (beginning 0x81 0)
     × (cursor_position lent.pointer (beginning 0x81 0) ≡ after_position (record { status = 3; place = 0 }) lent.pointer)
 unfolding cursor_position positioned position_status moved_to is_newer distance position_checks position_at first_of frame_checks rtp_holds number_in number_at signed pointer_of
-position-three = (omega arith, (omega arith, inl (λ e. omega arith)), refl)
+position_three = (omega arith, (omega arith, inl (λ e. omega arith)), refl)
 
 -- StoreThreeExactly: the second byte is 1
-pub store-three
+pub store_three
     : (records_whole (length lent.pointer) (length lent.picture) ≡ true)
     × (held (picture_of lent.picture) (length lent.image) (length lent.marks) ≡ true) × WrongRtp (beginning 0x80 1)
     × (called lent (beginning 0x80 1) ≡ after_store (record { status = 3; place = 0 }) lent.pointer lent.picture lent.image lent.marks)
 unfolding cursor_store records_whole stored assembled assembled_as store_status store_checks held has_room judging opened_rules other_rules of_opened fragment_checks fragment_frame first_of frame_checks rtp_holds takes_type header_length image_data offset_bits place_of outside fragment_as number_in number_at signed picture_of pointer_of
-store-three = (refl, refl, (omega arith, inr (λ e. omega arith)), refl)
+store_three = (refl, refl, (omega arith, inr (λ e. omega arith)), refl)
 
 -- StoredFits: the record opened by value, and a start
 pub stored_fits : PictureFits opened.picture × Bytes (start 30 1)

@@ -28,7 +28,7 @@ p10 = (refl, refl, refl)
 abbrev pub start : List ℕ
 start = rtp 5 ++ (2 ∷ 0 ∷ 20 ∷ 0 ∷ 0 ∷ 0 ∷ 4 ∷ 0 ∷ 9 ∷ 0xff ∷ 0xfe ∷ 0 ∷ 10 ∷ 3 ∷ 0 ∷ 1 ∷ 0 ∷ 2 ∷ 65 ∷ 66 ∷ [])
 
-pub start-read
+pub start_read
     : read_fragment start
     ≡ fragment.Accepted
     (record {
@@ -40,7 +40,7 @@ pub start-read
       start = record { image_type = 3; hot_x = 1; hot_y = 2 };
     })
 unfolding read_fragment fragment_as start_in start_of place_of fragment_frame fragment_checks first_of frame_checks rtp_holds number_in signed takes_type header_length image_data offset_bits outside
-start-read = refl
+start_read = refl
 
 pub start_moves_to : start_position start ≡ record { sequence = 5; x = negsuc 1; y = pos 10 }
 unfolding position_at number_in signed
@@ -73,11 +73,11 @@ unfolding fragment_frame fragment_checks first_of frame_checks rtp_holds number_
 offset_kept = (refl, refl, refl)
 
 -- ReadAlike: the start, and the same with timestamp and SSRC filled (02 §2)
-pub filled-start
+pub filled_start
     : SameButUnused start (filled 5 ++ drop 12 start)
     × (read_fragment (filled 5 ++ drop 12 start) ≡ read_fragment start)
     × (data_of (filled 5 ++ drop 12 start) ≡ 65 ∷ 66 ∷ [])
 unfolding read_fragment fragment_as start_in start_of place_of fragment_frame fragment_checks first_of frame_checks rtp_holds number_in signed takes_type header_length image_data offset_bits outside
-filled-start = (record { as_long = refl; before = refl; after = refl }, refl, refl)
+filled_start = (record { as_long = refl; before = refl; after = refl }, refl, refl)
 
 -- Without a premise: NumberByChecks.

@@ -33,10 +33,10 @@ abbrev pub filled : ℕ → List ℕ
 filled sequence = 0x80 ∷ 0 ∷ 0 ∷ sequence ∷ 0x11 ∷ 0x22 ∷ 0x33 ∷ 0x44 ∷ 0xaa ∷ 0xbb ∷ 0xcc ∷ 0xdd ∷ []
 
 -- P9 with it: the same position
-pub p9-filled
+pub p9_filled
     : read_position (filled 5 ++ (1 ∷ 0 ∷ 7 ∷ 0xff ∷ 0xfe ∷ 0 ∷ 0x0a ∷ [])) ≡ position.Accepted (record { sequence = 5; x = negsuc 1; y = pos 10 })
 unfolding read_position position_checks position_at first_of frame_checks rtp_holds number_in signed
-p9-filled = refl
+p9_filled = refl
 
 -- P9 so filled, with these first two bytes
 abbrev pub beginning : ℕ → ℕ → List ℕ

@@ -11,7 +11,7 @@ use Rattle.wire.specs.Splice.{splice}
 use Rattle.wire.proofs.Laws.Below.{bytes_computed}
 use Rattle.message_rules.specs.Rules.{roles_of, role_of, lengths_of, length_in, length_ok, known_command}
 use Rattle.message_rules.specs.Record.{absent, field_of, with_field, empty_of}
-use Rattle.message_rules.proofs.Laws.Rules.{each-type}
+use Rattle.message_rules.proofs.Laws.Rules.{each_type}
 use Rattle.message_rules.proofs.Laws.Record.{past}
 use Rattle.message_reader.specs.declared.Answer.TheVariants as answer
 use Rattle.message_reader.specs.Reading.{header_status, tlv_at, has_needed, is_complete, last_of, tlvs_from, read_message}
@@ -32,7 +32,7 @@ message_back = (omega arith, omega arith, fits, refl)
   where
     fits : (t : ℕ) → Fits (field_of handshake_record t)
     fits t = elim (dec_lt t 8) [
-      | yes h ↦ each-type (λ u. Fits (field_of handshake_record u)) none none none none (omega arith, omega arith) none none none t h
+      | yes h ↦ each_type (λ u. Fits (field_of handshake_record u)) none none none none (omega arith, omega arith) none none none t h
       | no h ↦ rw (past handshake_record t (omega arith)) none
     ]
       where

@@ -16,7 +16,7 @@ use Rattle.wire.specs.Below.{all_below}
 use Rattle.message_rules.specs.Record.{absent, field_of, with_field, empty_of, tlv_size, size_to}
 use Rattle.message_reader.specs.Reading.{header_status, type_at, length_at, tlv_at, has_needed, is_complete, last_of}
 use Rattle.message_reader.specs.Reading.{tlvs_from, read_message, numbered}
-use Rattle.message_rules.proofs.Laws.Rules.{each-type, type_small}
+use Rattle.message_rules.proofs.Laws.Rules.{each_type, type_small}
 use Rattle.wire.proofs.Laws.Bool.{impossible}
 use Rattle.message_reader.specs.Theorems.{Refusal, Acceptance}
 use Rattle.message_reader.specs.Theorems as given
@@ -178,17 +178,17 @@ handshake_record = record_of 3 absent absent (there 7 1)
 pub complete : (t : ℕ) → role_of 3 t ≡ needed → (field_of handshake_record t).present ≡ true
 unfolding roles_of role_of field_of
 complete t e =
-    each-type (λ u. role_of 3 u ≡ needed → (field_of handshake_record u).present ≡ true) impossible impossible impossible
+    each_type (λ u. role_of 3 u ≡ needed → (field_of handshake_record u).present ≡ true) impossible impossible impossible
     (λ f. absurd (let no : ⊥ = omega arith in no)) (λ f. refl) impossible impossible impossible t (type_small 3 t (λ f. omega arith)) e
 
 -- AcceptedExactly: it is right, and is accepted with that record
 -- ZeroExactly: so its number is 0
-pub handshake-accepted
+pub handshake_accepted
     : Acceptance handshake handshake_record × (read_message handshake ≡ answer.Accepted handshake_record)
     × (numbered (read_message handshake) ≡ accepted_as)
 unfolding number_in roles_of role_of lengths_of length_in length_ok known_command field_of with_field empty_of all_below has_needed is_complete first_of
     header_status tlv_at last_of tlvs_from read_message
-handshake-accepted = (
+handshake_accepted = (
   record {
     headed = record { four = omega arith; size = refl; version = refl; command = refl };
     reached = given.next given.start (record { whole = omega arith; expected = λ e. omega arith; fitting = refl; first = refl });

@@ -25,13 +25,13 @@ pub stop_projection : List ℕ
 stop_projection = 0 ∷ 0x1c ∷ 1 ∷ 2 ∷ 0 ∷ 0 ∷ 2 ∷ 0x41 ∷ 0 ∷ 3 ∷ 0 ∷ 16 ∷ replicate 16 7
 
 -- `0 1 33`, `33 2 28`, `end 61`; "With one byte more at the end, the last line is `61 refused 1`."
-pub two-messages
+pub two_messages
     : (listing (source_ready ++ stop_projection) ≡ (0, line.Message 1 33) ∷ (33, line.Message 2 28) ∷ (61, line.End) ∷ [])
     × (listing ((source_ready ++ stop_projection) ++ (0 ∷ []))
     ≡ (0, line.Message 1 33) ∷ (33, line.Message 2 28) ∷ (61, line.Refused status.Truncated) ∷ [])
 unfolding source_ready stop_projection number_in roles_of role_of lengths_of length_in length_ok known_command field_of with_field empty_of all_below
     has_needed is_complete first_of read_size header_status tlv_at last_of tlvs_from read_message needed_of line_of lines_from lines_at listing
-two-messages = (refl, refl)
+two_messages = (refl, refl)
 
 -- an empty recording: `end 0`
 pub empty : listing [] ≡ (0, line.End) ∷ []
@@ -51,11 +51,11 @@ size_past_the_end = refl
 -- The premises of the theorems are met, most by the message of 8 bytes of `message_reader Examples`.
 
 -- ReadSoFarDecides: its 8 bytes, and one that follows
-pub read-so-far
+pub read_so_far
     : (needed_of handshake ≤ length handshake) × (line_of (handshake ++ (0 ∷ [])) ≡ line.Message 3 8) × (line_of handshake ≡ line.Message 3 8)
 unfolding number_in roles_of role_of lengths_of length_in length_ok known_command field_of with_field empty_of all_below has_needed is_complete first_of
     read_size header_status tlv_at last_of tlvs_from read_message needed_of line_of
-read-so-far = (omega arith, refl, refl)
+read_so_far = (omega arith, refl, refl)
 
 -- FrontDecides: the first 8 of these 9 bytes
 pub front : (needed_of (handshake ++ (0 ∷ [])) ≤ 8) × (line_of (take 8 (handshake ++ (0 ∷ []))) ≡ line.Message 3 8)

@@ -8,8 +8,8 @@ unfolding roles_of role_of
 roles_of_source_ready = (refl, refl, refl, refl)
 
 -- the lengths of a Friendly Name, the even numbers from 2 to 520; of a type that there is not, none
-pub lengths-of-name
+pub lengths_of_name
     : (lengths_of 0 ≡ (2, 520, 2)) × (length_ok 0 0 ≡ false) × (length_ok 0 2 ≡ true) × (length_ok 0 3 ≡ false) × (length_ok 0 520 ≡ true)
     × (length_ok 0 522 ≡ false) × (length_ok 1 1 ≡ false)
 unfolding lengths_of length_in length_ok
-lengths-of-name = (refl, refl, refl, refl, refl, refl, refl)
+lengths_of_name = (refl, refl, refl, refl, refl, refl, refl)

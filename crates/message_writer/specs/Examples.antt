@@ -11,7 +11,7 @@ use Rattle.wire.proofs.Laws.Bool.{not_both}
 use Rattle.message_rules.specs.declared.record.Message.{Message}
 use Rattle.message_rules.specs.Rules.{foreign, roles_of, role_of, lengths_of, length_in, length_ok, known_command}
 use Rattle.message_rules.specs.Record.{absent, field_of, with_field, empty_of, tlv_size, size_to}
-use Rattle.message_rules.proofs.Laws.Rules.{each-type}
+use Rattle.message_rules.proofs.Laws.Rules.{each_type}
 use Rattle.message_rules.proofs.Laws.Record.{field_type}
 use Rattle.message_reader.specs.declared.Answer.TheVariants as answer
 use Rattle.message_reader.specs.Reading.{header_status, tlv_at, has_needed, is_complete, last_of, tlvs_from, read_message}
@@ -65,7 +65,7 @@ no e = not_both false e refl
 only_token : (P : ℕ → Type 0) → P 4 → (t : ℕ) → (field_of handshake_record t).present ≡ true → P t
 unfolding field_of
 only_token P p t e =
-    each-type (λ u. (field_of handshake_record u).present ≡ true → P u) no no no no (λ f. p) no no no t (field_type handshake_record t e).0 e
+    each_type (λ u. (field_of handshake_record u).present ≡ true → P u) no no no no (λ f. p) no no no t (field_type handshake_record t e).0 e
 
 can_be_written : Unwritable 8 handshake_record → ⊥
 unfolding roles_of role_of lengths_of length_in length_ok known_command field_of tlv_size size_to
@@ -117,7 +117,7 @@ rising_record = record_of 3 absent (there 7 16) (there 26 1)
 source_then_token : (P : ℕ → Type 0) → P 3 → P 4 → (t : ℕ) → (field_of rising_record t).present ≡ true → P t
 unfolding field_of
 source_then_token P p q t e =
-    each-type (λ u. (field_of rising_record u).present ≡ true → P u) no no no (λ f. p) (λ f. q) no no no t (field_type rising_record t e).0 e
+    each_type (λ u. (field_of rising_record u).present ≡ true → P u) no no no (λ f. p) (λ f. q) no no no t (field_type rising_record t e).0 e
 
 rises : Rising rising_record
 unfolding Rising field_of
@@ -143,13 +143,13 @@ falling = 0 ∷ 27 ∷ 1 ∷ 3 ∷ 4 ∷ 0 ∷ 1 ∷ 9 ∷ 3 ∷ 0 ∷ 16 ∷ re
 abbrev falling_record : Message
 falling_record = record_of 3 absent (there 11 16) (there 7 1)
 
-pub writes-otherwise
+pub writes_otherwise
     : Bytes falling × (read_message falling ≡ answer.Accepted falling_record) × (length falling ≤ 27)
     × (write_answer falling falling_record (replicate 27 5) ≡ written.Wrote 27) × (Rising falling_record → ⊥)
     × (take 27 (output falling falling_record (replicate 27 5)) ≡ rising)
 unfolding roles_of role_of lengths_of length_in length_ok known_command field_of tlv_size size_to all_below field_ok writable write_answer bytes_in
     body_to message_of output Rising number_in with_field empty_of has_needed is_complete first_of header_status tlv_at last_of tlvs_from read_message
-writes-otherwise = (
+writes_otherwise = (
   bytes_computed falling refl,
   refl,
   omega arith,

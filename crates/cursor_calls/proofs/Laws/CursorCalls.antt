@@ -21,7 +21,7 @@ use Rattle.cursor_store.specs.Assembling.{Outcome, outcome, assembled, store_sta
 use Rattle.cursor_store.specs.Storing.{with_pointer, stored}
 use Rattle.cursor_store.specs.Calls.{State, numbered}
 use Rattle.cursor_store.proofs.Laws.Calls.{number_by_checks as store-by-checks}
-use Rattle.cursor_store.proofs.Laws.Storing.{stored-accepted, stored_refused, stored_with}
+use Rattle.cursor_store.proofs.Laws.Storing.{stored_accepted, stored_refused, stored_with}
 use Rattle.cursor_layout.specs.PointerLayout.{pointer_length, pointer_of}
 use Rattle.cursor_layout.specs.PictureLayout.{picture_of}
 use Rattle.host_answers.specs.Answers.{short}
@@ -33,10 +33,10 @@ module _ (ps packet : List ℕ) where
   position_short l = simp (lt-leb pointer_length (length ps) l)
 
   -- the call answered `b`
-  pub position-answered
+  pub position_answered_lem
       : (b : PointerAnswer) → pointer_length ≤ length ps → positioned (pointer_of ps) packet ≡ b → cursor_position ps packet ≡ position_answered b ps
   unfolding cursor_position
-  position-answered b h f = simp (le-leb pointer_length (length ps) h) (ap (λ (x : PointerAnswer). position_answered x ps) f)
+  position_answered_lem b h f = simp (le-leb pointer_length (length ps) h) (ap (λ (x : PointerAnswer). position_answered x ps) f)
 
 module _ (ps qs packet image marks : List ℕ) where
   pub store_short : records_whole (length ps) (length qs) ≡ false → cursor_store ps qs packet image marks ≡ after_store short ps qs image marks
@@ -44,33 +44,33 @@ module _ (ps qs packet image marks : List ℕ) where
   store_short e = simp e
 
   -- the picture's part has answered `r`, and left these bytes and marks
-  pub store-answered
+  pub store_answered_lem
       : (r : Assembled) (bytes filled : List ℕ) → records_whole (length ps) (length qs) ≡ true
       → outcome r bytes filled ≡ assembled (picture_of qs) packet image marks
       → cursor_store ps qs packet image marks ≡ all_answered packet (with_pointer (pointer_of ps) packet (outcome r bytes filled)) ps qs
   unfolding cursor_store
-  store-answered r bytes filled h e =
+  store_answered_lem r bytes filled h e =
       simp h (ap (λ (x : Outcome StoreAnswer). all_answered packet x ps qs) (stored_with (pointer_of ps) (picture_of qs) packet image marks r bytes filled e))
 
 -- The number of each answer: 10 for a short record, else that of the checks.
 
-pub position-number
+pub position_number
     : (ps packet : List ℕ)
     → (cursor_position ps packet).answer.status ≡ cond (leb pointer_length (length ps)) (number_of (position_status (pointer_of ps) packet)) 10
 unfolding cursor_position
-position-number ps packet = go (leb pointer_length (length ps))
+position_number ps packet = go (leb pointer_length (length ps))
   where
     go : (b : Bool) → (cond b (position_answered (positioned (pointer_of ps) packet) ps) (after_position short ps)).answer.status
         ≡ cond b (number_of (position_status (pointer_of ps) packet)) 10
     go true = ap (λ (n : Numbered). n.number) (position-by-checks (pointer_of ps) packet)
     go false = refl
 
-pub store-number
+pub store_number
     : (ps qs packet image marks : List ℕ)
     → (cursor_store ps qs packet image marks).answer.status
     ≡ cond (records_whole (length ps) (length qs)) (number_of (store_status (picture_of qs) packet image marks)) 10
 unfolding cursor_store
-store-number ps qs packet image marks = go (records_whole (length ps) (length qs))
+store_number ps qs packet image marks = go (records_whole (length ps) (length qs))
   where
     answer_number : (x : StoreAnswer) (bytes filled : List ℕ) → (store_answered packet x ps qs bytes filled).answer.status ≡ (numbered x).number
     answer_number (store.Accepted y) bytes filled = refl
@@ -111,7 +111,7 @@ module _ (ps qs packet image marks : List ℕ) where
   stored_kept : (b : Bool) → accepted (store_status (picture_of qs) packet image marks) ≡ b
       → keeps_store (all_answered packet (stored (pointer_of ps) (picture_of qs) packet image marks) ps qs)
   unfolding keeps_store
-  stored_kept true e = rw (stored-accepted (pointer_of ps) (picture_of qs) packet image marks e) (λ h. absurd (h refl))
+  stored_kept true e = rw (stored_accepted (pointer_of ps) (picture_of qs) packet image marks e) (λ h. absurd (h refl))
   stored_kept false e = rw (stored_refused (pointer_of ps) (picture_of qs) packet image marks e) (λ h. refl)
 
 pub store_refusal_keeps : StoreRefusalKeeps

@@ -35,7 +35,7 @@ use Rattle.cursor_store.specs.Storing.{moves, pointer_after}
 use Rattle.cursor_store.specs.Receiver.{Call, fragment, other, packet_of, run}
 use Rattle.cursor_store.specs.Calls.{State, is_accepted, answered, next, by_value}
 use Rattle.cursor_store.specs.DemandThree.{Whole, total_of, Taken, Given, covered, started, AllAccepted}
-use Rattle.cursor_store.proofs.Laws.Storing.{pointer-start, pointer_kept, stored-accepted, stored_refused}
+use Rattle.cursor_store.proofs.Laws.Storing.{pointer_start, pointer_kept, stored_accepted, stored_refused}
 use Rattle.cursor_store.proofs.Laws.DemandThree.{demand_three}
 use Rattle.cursor_layout.specs.PointerLayout.{pointer_length, pointer_bytes, pointer_of}
 use Rattle.cursor_layout.specs.PictureLayout.{picture_length, picture_of, picture_left, PictureFits}
@@ -82,7 +82,7 @@ module _ (packet : List ℕ) (small : Bytes packet) where
 
   moved_is : (p : Pointer) → moves p packet ≡ true → pointer_after p packet ≡ set
   unfolding moves moved_to position_at
-  moved_is p e = let r = both _ _ e in pointer-start p packet r.0 ∙ simp r.1
+  moved_is p e = let r = both _ _ e in pointer_start p packet r.0 ∙ simp r.1
 
   module _ (ps : List ℕ) where
     abbrev after : Pointer
@@ -136,25 +136,25 @@ module _ (s : Lent) (r : RecordsLent s) (packet : List ℕ) where
   abbrev judged : Status
   judged = store_status q packet s.image s.marks
 
-  called-accepted
+  called_accepted
       : accepted judged ≡ true
       → called s packet
       ≡ after_store acceptedAnswer (pointer_left packet (pointer_after p packet) s.pointer) (picture_left q (picture_after q (fragment_of packet)) s.picture)
       (image_after (fragment_of packet) (data_of packet) s.image) (marks_after q (fragment_of packet) (data_of packet) s.marks)
   unfolding cursor_store
-  called-accepted e = simp r.whole (rw (stored-accepted p q packet s.image s.marks e))
+  called_accepted e = simp r.whole (rw (stored_accepted p q packet s.image s.marks e))
 
-  called-refused
+  called_refused
       : accepted judged ≡ false → called s packet ≡ after_store (refused judged 0) s.pointer s.picture s.image s.marks
   unfolding cursor_store
-  called-refused e = simp r.whole (rw (stored_refused p q packet s.image s.marks e))
+  called_refused e = simp r.whole (rw (stored_refused p q packet s.image s.marks e))
 
   accepts_same : eqb (called s packet).answer.status 0 ≡ is_accepted (answered (decoded s) packet).answer
   accepts_same = go (accepted judged) refl
     where
       go : (b : Bool) → accepted judged ≡ b → eqb (called s packet).answer.status 0 ≡ is_accepted (answered (decoded s) packet).answer
-      go true e = rw (called-accepted e, stored-accepted p q packet s.image s.marks e)
-      go false e = rw (called-refused e, stored_refused p q packet s.image s.marks e)
+      go true e = rw (called_accepted e, stored_accepted p q packet s.image s.marks e)
+      go false e = rw (called_refused e, stored_refused p q packet s.image s.marks e)
 
   module _ (small : Bytes packet) where
     step_decoded : decoded (next_lent s packet) ≡ next (decoded s) packet
@@ -164,12 +164,12 @@ module _ (s : Lent) (r : RecordsLent s) (packet : List ℕ) where
         go : (b : Bool) → accepted judged ≡ b → decoded (next_lent s packet) ≡ next (decoded s) packet
         go true e =
             rw (
-              called-accepted e,
-              stored-accepted p q packet s.image s.marks e,
+              called_accepted e,
+              stored_accepted p q packet s.image s.marks e,
               pointer_left_reads packet small s.pointer (lengths s r).0,
               left_reads (picture_after q (fragment_of packet)) s.picture (stored_fits q packet (picture_fits s.picture r.picture) small) (lengths s r).1,
             )
-        go false e = rw (called-refused e, stored_refused p q packet s.image s.marks e)
+        go false e = rw (called_refused e, stored_refused p q packet s.image s.marks e)
 
     still_lent : RecordsLent (next_lent s packet)
     unfolding next_lent
@@ -177,13 +177,13 @@ module _ (s : Lent) (r : RecordsLent s) (packet : List ℕ) where
       where
         go : (b : Bool) → accepted judged ≡ b → RecordsLent (next_lent s packet)
         go true e =
-            rw (called-accepted e)
+            rw (called_accepted e)
             (record {
               whole = rw (pointer_left_length packet small s.pointer, left_length (picture_after q (fragment_of packet)) s.picture) r.whole;
               pointer = pointer_left_bytes packet small s.pointer r.pointer;
               picture = left_bytes (picture_after q (fragment_of packet)) s.picture r.picture;
             })
-        go false e = rw (called-refused e) r
+        go false e = rw (called_refused e) r
 
 -- The completeness question.
 
@@ -192,11 +192,11 @@ is_yes complete.Yes h = refl
 is_yes complete.No h = absurd (false≢true (ap (λ (y : Yes). y.yes) h))
 is_yes (complete.Refused st place) h = absurd (false≢true (ap (λ (y : Yes). y.yes) h))
 
-complete-same
+complete_same
     : (s : Lent) → RecordsLent s
     → (over_records.Complete s → by_value.Complete (decoded s)) × (by_value.Complete (decoded s) → over_records.Complete s)
 unfolding cursor_complete
-complete-same s r =
+complete_same s r =
     let there : leb picture_length (length s.picture) ≡ true = le-leb _ _ (lengths s r).1 in (
       λ h. is_yes (completeness (picture_of s.picture) (length s.image) s.marks) (simp there at h),
       λ h. simp there (ap yes_or_no h),
@@ -249,7 +249,7 @@ pub demand_three_over_records : DemandThreeOverRecords
 demand_three_over_records w s l g =
     let h = demand_three w (decoded s) l (given_decoded w s l g) in
     let e : run by_value (decoded s) l ≡ decoded (run over_records s l) = sym (run_decoded s l g.asked.0 g.asked.1) in
-    let c = complete-same (run over_records s l) (all_lent s l g.asked.0 g.asked.1) in
+    let c = complete_same (run over_records s l) (all_lent s l g.asked.0 g.asked.1) in
     let v = subst (λ (x : State). by_value.Complete x ↔ (((started l || (picture_of s.picture).seen) ≡ true) × ((i : ℕ) → i < total_of w → filled_at x.marks i ≡ true))) e h.complete in
     record {
       each_accepted = all_accepted s l g.asked.0 g.asked.1 h.each_accepted;

@@ -14,11 +14,11 @@ use Rattle.cursor_packet.proofs.Laws.UnusedFields.{unused_ignored}
 use Rattle.cursor_pointer.proofs.Laws.UnusedFields.{positioned_alike, three_at_position}
 use Rattle.cursor_store.specs.declared.storing.StoreAnswer.{StoreAnswer}
 use Rattle.cursor_store.specs.declared.storing.StoreAnswer.TheVariants as store
-use Rattle.cursor_store.proofs.Laws.UnusedFields.{moves_alike, stored_alike, three-at-store}
+use Rattle.cursor_store.proofs.Laws.UnusedFields.{moves_alike, stored_alike, three_at_store}
 use Rattle.cursor_layout.specs.PointerLayout.{pointer_length, pointer_of}
 use Rattle.cursor_layout.specs.PictureLayout.{picture_of}
 use Rattle.cursor_calls.specs.CursorCalls.{cursor_position, records_whole, pointer_left, store_answered, cursor_store}
-use Rattle.cursor_calls.proofs.Laws.CursorCalls.{position-number, store-number}
+use Rattle.cursor_calls.proofs.Laws.CursorCalls.{position_number, store_number}
 use Rattle.cursor_calls.specs.UnusedFields.{PositionUnusedIgnored, StoreUnusedIgnored, PositionThreeExactly, StoreThreeExactly}
 
 pub position_unused_ignored : PositionUnusedIgnored
@@ -43,10 +43,10 @@ given_exactly false n C g = (λ e. impossible (cc), λ h. absurd (false≢true h
 
 pub position_three_exactly : PositionThreeExactly
 position_three_exactly ps packet =
-    Iff.trans (rw (position-number ps packet) (given_exactly (leb pointer_length (length ps)) _ (WrongRtp packet) (three_at_position (pointer_of ps) packet)))
+    Iff.trans (rw (position_number ps packet) (given_exactly (leb pointer_length (length ps)) _ (WrongRtp packet) (three_at_position (pointer_of ps) packet)))
     (Iff.and (leb-true pointer_length (length ps), le-leb pointer_length (length ps)) Iff.rfl)
 
 pub store_three_exactly : StoreThreeExactly
 store_three_exactly ps qs packet image marks =
-    rw (store-number ps qs packet image marks)
-    (given_exactly (records_whole (length ps) (length qs)) _ _ (three-at-store (picture_of qs) packet image marks))
+    rw (store_number ps qs packet image marks)
+    (given_exactly (records_whole (length ps) (length qs)) _ _ (three_at_store (picture_of qs) packet image marks))

@@ -15,7 +15,7 @@ use Rattle.wire.proofs.Laws.Laid.{laid_fits, laid_short}
 use Rattle.text.specs.Abnf.{space}
 use Rattle.text.specs.Hex.{spell_digits}
 use Rattle.text.proofs.Laws.Hex.{length_digits}
-use Rattle.wire.proofs.Laws.Splice.{length_splice, splice-next, part_back}
+use Rattle.wire.proofs.Laws.Splice.{length_splice, splice_next, part_back}
 use Rattle.cursor_limits.specs.declared.value.Xor.{Xor}
 use Rattle.cursor_limits.specs.declared.value.Xor.TheVariants as xor
 use Rattle.cursor_limits.specs.declared.value.Limits.{Limits}
@@ -77,7 +77,7 @@ field_back i vs xs l h e =
       part_back (4 + 5 * i) 5 xs (spell_field v) f,
       at,
       add-one,
-      splice-next (4 + 5 * i) (spell_field v) (spell_fields (drop (suc i) vs)) xs (omega arith),
+      splice_next (4 + 5 * i) (spell_field v) (spell_fields (drop (suc i) vs)) xs (omega arith),
     ) (rw (drop-cons vs i 0 l) at e)
 
 -- what stands after the first places stays when these are written

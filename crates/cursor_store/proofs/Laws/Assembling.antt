@@ -19,13 +19,13 @@ use Rattle.cursor_store.specs.Judging.{judging, SequenceIgnored}
 use Rattle.cursor_store.specs.Assembling.{store_checks, store_status, opened_for, cleared_for, image_after, marks_after, with_start, picture_after, outcome, assembled_as, fragment_assembled, assembled, OldFragmentStored}
 use Rattle.cursor_store.proofs.Laws.Judging.{opened_same, sequence_ignored}
 
-pub store-status
+pub store_status_lem
     : (q : Picture) (packet image marks : List ℕ)
     → store_status q packet image marks
     ≡ cond (not (held q (length image) (length marks))) status.ImageNotHeld
     (cond (accepted (fragment_status packet)) (first_of (judging q (fragment_of packet) (data_of packet) image marks)) (fragment_status packet))
 unfolding store_status store_checks first_of
-store-status q packet image marks = rw (first_append (fragment_checks (is_start packet) packet) (judging q (fragment_of packet) (data_of packet) image marks) (checks_refuse (is_start packet) packet))
+store_status_lem q packet image marks = rw (first_append (fragment_checks (is_start packet) packet) (judging q (fragment_of packet) (data_of packet) image marks) (checks_refuse (is_start packet) packet))
 
 -- what an accepted call passed
 passed : (h : Bool) (t j : Status) → accepted (cond (not h) status.ImageNotHeld (cond (accepted t) j t)) ≡ true → (h ≡ true) × (accepted t ≡ true) × (accepted j ≡ true)
@@ -36,13 +36,13 @@ passed h t j e = go h (accepted t) refl e
     go true false k e = absurd (false≢true (sym k ∙ e))
     go false b k e = absurd (false≢true e)
 
-pub store-passed
+pub store_passed
     : (q : Picture) (packet image marks : List ℕ) → accepted (store_status q packet image marks) ≡ true
     → (held q (length image) (length marks) ≡ true) × (accepted (fragment_status packet) ≡ true)
     × (accepted (first_of (judging q (fragment_of packet) (data_of packet) image marks)) ≡ true)
-store-passed q packet image marks h =
+store_passed q packet image marks h =
     passed (held q (length image) (length marks)) (fragment_status packet) (first_of (judging q (fragment_of packet) (data_of packet) image marks))
-    (ap accepted (sym (store-status q packet image marks)) ∙ h)
+    (ap accepted (sym (store_status_lem q packet image marks)) ∙ h)
 
 -- a parsed packet's fragment, where it is accepted
 module _ (packet : List ℕ) (m : Parsed) (e : m ≡ parsed packet) where
@@ -66,12 +66,12 @@ module _ (packet : List ℕ) (m : Parsed) (e : m ≡ parsed packet) where
     parsed_inside = rw (parsed_data, parsed_fragment) (data_inside packet well_formed)
 
 module _ (q : Picture) (packet image marks : List ℕ) where
-  pub assembled-not-held
+  pub assembled_not_held
       : held q (length image) (length marks) ≡ false
       → assembled q packet image marks ≡ outcome (record { status = status.ImageNotHeld; picture = q }) image marks
   unfolding assembled assembled_as
-  assembled-not-held h =
-      let t : store_status q packet image marks ≡ status.ImageNotHeld = store-status q packet image marks ∙ simp h in
+  assembled_not_held h =
+      let t : store_status q packet image marks ≡ status.ImageNotHeld = store_status_lem q packet image marks ∙ simp h in
       simp t
 
   module _ (h : held q (length image) (length marks) ≡ true) (m : Parsed) (e : m ≡ parsed packet) where
@@ -80,7 +80,7 @@ module _ (q : Picture) (packet image marks : List ℕ) where
     unfolding assembled assembled_as
     assembled-refused a =
         let n : accepted (fragment_status packet) ≡ false = ap accepted (sym (parsed_status packet m e)) ∙ a in
-        let t : store_status q packet image marks ≡ fragment_status packet = store-status q packet image marks ∙ simp (h, n) in
+        let t : store_status q packet image marks ≡ fragment_status packet = store_status_lem q packet image marks ∙ simp (h, n) in
         simp (t, n, parsed_status packet m e)
 
     pub assembled-taken
@@ -90,7 +90,7 @@ module _ (q : Picture) (packet image marks : List ℕ) where
     assembled-taken a =
         rw (parsed_data packet m e a, parsed_fragment packet m e a)
         (ap (λ (s : Status). assembled_as s q (fragment_of packet) (data_of packet) image marks)
-        (store-status q packet image marks ∙ simp (h, well_formed packet m e a)))
+        (store_status_lem q packet image marks ∙ simp (h, well_formed packet m e a)))
 
 -- a fragment of the opened id, whatever its sequence number
 pub old_fragment_stored : OldFragmentStored

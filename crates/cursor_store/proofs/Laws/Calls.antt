@@ -25,9 +25,9 @@ use Rattle.cursor_store.specs.Assembling.{store_status, opened_by, opened_for, c
 use Rattle.cursor_store.specs.Storing.{pointer_after, stored}
 use Rattle.cursor_store.specs.Receiver.{covers}
 use Rattle.cursor_store.specs.Calls.{State, numbered, is_accepted, answered, next, NumberByChecks, RefusalKeeps, PictureKept, OutsideKept, FormerStaysClosed}
-use Rattle.cursor_store.proofs.Laws.Judging.{judged-room, judged-start, judged-late}
-use Rattle.cursor_store.proofs.Laws.Assembling.{store-passed}
-use Rattle.cursor_store.proofs.Laws.Storing.{stored_refused, stored-accepted}
+use Rattle.cursor_store.proofs.Laws.Judging.{judged_room, judged_start, judged_late}
+use Rattle.cursor_store.proofs.Laws.Assembling.{store_passed}
+use Rattle.cursor_store.proofs.Laws.Storing.{stored_refused, stored_accepted}
 
 -- what the answer says of the checks
 module _ (s : State) (packet : List ℕ) where
@@ -38,7 +38,7 @@ module _ (s : State) (packet : List ℕ) where
   not_accepted e = rw (stored_refused s.pointer s.picture packet s.image s.marks e) e
 
   is_accepted_lem : accepted status_of ≡ true → is_accepted (answered s packet).answer ≡ true
-  is_accepted_lem e = rw (stored-accepted s.pointer s.picture packet s.image s.marks e)
+  is_accepted_lem e = rw (stored_accepted s.pointer s.picture packet s.image s.marks e)
 
   same_verdict : accepted status_of ≡ is_accepted (answered s packet).answer
   same_verdict = go (accepted status_of) refl
@@ -73,14 +73,14 @@ module _ (s : State) (packet : List ℕ) (h : is_accepted (answered s packet).an
         marks = marks_after s.picture (fragment_of packet) (data_of packet) s.marks;
       }
   unfolding next
-  next_is = rw (stored-accepted s.pointer s.picture packet s.image s.marks status_accepted)
+  next_is = rw (stored_accepted s.pointer s.picture packet s.image s.marks status_accepted)
 
   places : ((fragment_of packet).offset + length (data_of packet) ≤ (fragment_of packet).total)
       × ((fragment_of packet).total ≤ length s.image) × ((fragment_of packet).total ≤ length s.marks)
   unfolding DataInside
   places =
-      let r = store-passed s.picture packet s.image s.marks status_accepted in
-      let m = judged-room s.picture (fragment_of packet) (data_of packet) s.image s.marks r.2 in
+      let r = store_passed s.picture packet s.image s.marks status_accepted in
+      let m = judged_room s.picture (fragment_of packet) (data_of packet) s.image s.marks r.2 in
       let l = room_says (fragment_of packet).total (length s.image) (length s.marks) m in
       (data_inside packet r.1, l.0, l.1)
 
@@ -95,7 +95,7 @@ module _ (s : State) (packet : List ℕ) (h : is_accepted (answered s packet).an
       go : (b : Bool) → is_start packet ≡ b → with_start (fragment_of packet) q ≡ q
       go false e = simp (starts_is packet ∙ e)
       go true e =
-          let differs = judged-start q (fragment_of packet) (data_of packet) s.image s.marks (store-passed q packet s.image s.marks status_accepted).2 o in
+          let differs = judged_start q (fragment_of packet) (data_of packet) s.image s.marks (store_passed q packet s.image s.marks status_accepted).2 o in
           let same : same_start q.start (fragment_of packet).start ≡ true = not-false _ (simp (starts_is packet ∙ e, seen e) at differs) in
           simp (starts_is packet ∙ e) (rw (← same_start_is q.start (fragment_of packet).start same, ← seen e))
 
@@ -171,7 +171,7 @@ former_stays_closed s opener late h o d n =
     let r = opened_as f.starts f refl in
     let not-id : of_opened s'.picture g ≡ false = rw (e, r.0, r.1, ne_eqb f.id g.id d) in
     let not_newer : opens s'.picture g ≡ false = rw (e, r.0, r.2) n in
-    let late_is = judged-late s'.picture g (data_of late) s'.image s'.marks not-id not_newer in
+    let late_is = judged_late s'.picture g (data_of late) s'.image s'.marks not-id not_newer in
     let refused = not_accepted s' late (store_stopped s'.picture late s'.image s'.marks late_is) in
     (refused, refusal_keeps s' late refused)
   where
@@ -180,5 +180,5 @@ former_stays_closed s opener late h o d n =
     store_stopped q packet image marks e = go (accepted (store_status q packet image marks)) refl
       where
         go : (b : Bool) → accepted (store_status q packet image marks) ≡ b → b ≡ false
-        go true k = sym (store-passed q packet image marks k).2 ∙ e
+        go true k = sym (store_passed q packet image marks k).2 ∙ e
         go false k = refl

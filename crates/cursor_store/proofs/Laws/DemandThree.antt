@@ -39,8 +39,8 @@ use Rattle.cursor_store.specs.Receiver.{Call, fragment, other, covers, run}
 use Rattle.cursor_store.specs.Calls.{State, is_accepted, answered, next, by_value, RefusalKeeps}
 use Rattle.cursor_store.specs.DemandThree.{Whole, total_of, OpenedAs, CutFrom, Taken, StartsHave, Given, covered, started, AllAccepted, SameFragment, Among, Within, SameEnd, DemandThree}
 use Rattle.cursor_store.proofs.Laws.Calls.{refusal_keeps}
-use Rattle.cursor_store.proofs.Laws.Assembling.{store-status}
-use Rattle.cursor_store.proofs.Laws.Storing.{stored-accepted}
+use Rattle.cursor_store.proofs.Laws.Assembling.{store_status_lem}
+use Rattle.cursor_store.proofs.Laws.Storing.{stored_accepted}
 
 -- One fragment that is cut from the whole picture.
 
@@ -144,20 +144,20 @@ module _ (w : Whole) (s : State) (a : Start) (o : OpenedAs by_value w s) (u : s.
     marks = splice f.offset (replicate (length ds) 1) s.marks;
   }
 
-  answer-is
+  answer_is
       : answered s packet ≡ outcome (Accepted (record { pointer = then_is.pointer; picture = then_is.picture })) then_is.image then_is.marks
   unfolding opened_for cleared_for image_after marks_after picture_after
-  answer-is =
-      stored-accepted s.pointer s.picture packet s.image s.marks
-      (ap accepted (store-status s.picture packet s.image s.marks) ∙ simp (o.clear, c.well_formed, judged))
+  answer_is =
+      stored_accepted s.pointer s.picture packet s.image s.marks
+      (ap accepted (store_status_lem s.picture packet s.image s.marks) ∙ simp (o.clear, c.well_formed, judged))
       ∙ simp is_opened
 
   is_accepted_lem : is_accepted (answered s packet).answer ≡ true
-  is_accepted_lem = rw answer-is
+  is_accepted_lem = rw answer_is
 
   next_is : next s packet ≡ then_is
   unfolding next
-  next_is = rw answer-is
+  next_is = rw answer_is
 
   image_at : (i : ℕ) → get_or then_is.image i 0 ≡ cond (covers packet i) (get_or w.image i 0) (get_or s.image i 0)
   image_at i = get_d_splice f.offset ds s.image fit.0 i ∙ cond_same (covers packet i) _ _ _ (λ h. whole h)

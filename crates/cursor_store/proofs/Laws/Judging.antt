@@ -18,11 +18,11 @@ no_room : (b : Bool) (s : Status) → accepted (cond (not b) status.NoRoom s) �
 no_room true s h = refl
 no_room false s h = absurd (false≢true h)
 
-pub judged-room
+pub judged_room
     : (q : Picture) (f : Fragment) (ds image marks : List ℕ) → accepted (first_of (judging q f ds image marks)) ≡ true
     → has_room f.total (length image) (length marks) ≡ true
 unfolding judging first_of
-judged-room q f ds image marks h = no_room (has_room f.total (length image) (length marks)) _ h
+judged_room q f ds image marks h = no_room (has_room f.total (length image) (length marks)) _ h
 
 no_conflict : (r t d b : Bool) → accepted (cond (not r) status.NoRoom (cond t status.TotalDiffers (cond (d || b) status.Conflict status.Accepted))) ≡ true → d ≡ false
 no_conflict true true d b h = absurd (false≢true h)
@@ -31,11 +31,11 @@ no_conflict true false false b h = refl
 no_conflict false t d b h = absurd (false≢true h)
 
 -- an accepted fragment of the opened id is no second start that differs
-pub judged-start
+pub judged_start
     : (q : Picture) (f : Fragment) (ds image marks : List ℕ) → accepted (first_of (judging q f ds image marks)) ≡ true → of_opened q f ≡ true
     → start_differs q f ≡ false
 unfolding judging opened_rules first_of
-judged-start q f ds image marks h o =
+judged_start q f ds image marks h o =
     no_conflict (has_room f.total (length image) (length marks)) (not (eqb q.total f.total)) (start_differs q f) (bytes_differ f.offset ds image marks) (simp o at h)
 
 module _ (n : ℕ) (q : Picture) (f : Fragment) where
@@ -59,8 +59,8 @@ not_opened : (a : Bool) → accepted (cond a status.NoRoom status.NotNewer) ≡ 
 not_opened true = refl
 not_opened false = refl
 
-pub judged-late
+pub judged_late
     : (q : Picture) (f : Fragment) (ds image marks : List ℕ) → of_opened q f ≡ false → opens q f ≡ false
     → accepted (first_of (judging q f ds image marks)) ≡ false
 unfolding judging other_rules first_of
-judged-late q f ds image marks o n = simp (o, n) (not_opened (not (has_room f.total (length image) (length marks))))
+judged_late q f ds image marks o n = simp (o, n) (not_opened (not (has_room f.total (length image) (length marks))))

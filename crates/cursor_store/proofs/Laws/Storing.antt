@@ -16,10 +16,10 @@ use Rattle.cursor_store.specs.Storing.{moves, pointer_after, with_pointer, store
 
 -- the pointer after a packet
 module _ (p : Pointer) (packet : List ℕ) where
-  pub pointer-start
+  pub pointer_start
       : is_start packet ≡ true → pointer_after p packet ≡ moved_to p (start_position packet).sequence (start_position packet).x (start_position packet).y
   unfolding pointer_after
-  pointer-start e = simp e
+  pointer_start e = simp e
 
   -- a packet that is no start
   pub no_start_moves : is_start packet ≡ false → moves p packet ≡ false
@@ -43,13 +43,13 @@ module _ (p : Pointer) (q : Picture) (packet image marks : List ℕ) where
   unfolding stored assembled assembled_as
   stored_refused e = simp e
 
-  pub stored-accepted
+  pub stored_accepted
       : accepted (store_status q packet image marks) ≡ true
       → stored p q packet image marks
       ≡ outcome (Accepted (record { pointer = pointer_after p packet; picture = picture_after q (fragment_of packet) }))
       (image_after (fragment_of packet) (data_of packet) image) (marks_after q (fragment_of packet) (data_of packet) marks)
   unfolding stored assembled assembled_as
-  stored-accepted e = simp e
+  stored_accepted e = simp e
 
   -- the picture's part has answered
   pub stored_with : (r : Assembled) (bytes filled : List ℕ) → outcome r bytes filled ≡ assembled q packet image marks

@@ -11,7 +11,7 @@ use Rattle.wire.specs.Status.{number_of}
 use Rattle.wire.specs.declared.status.Status.TheVariants as status
 use Rattle.wire.specs.Checks.{Check, refuse}
 use Rattle.wire.proofs.Laws.Bool.{by_test}
-use Rattle.wire.proofs.Laws.Checks.{lacking, first_gives, other-first}
+use Rattle.wire.proofs.Laws.Checks.{lacking, first_gives, other_first}
 use Rattle.cursor_packet.specs.Frame.{type_of}
 use Rattle.cursor_packet.specs.UnusedFields.{PartsAlike, WrongRtp}
 use Rattle.cursor_packet.proofs.Laws.UnusedFields.{three_exactly}
@@ -41,15 +41,15 @@ unfolding judging opened_rules other_rules lacking
 no_three q f ds image marks =
     by_test (λ (cs : List Check). lacking 3 cs ≡ true) (of_opened q f) (opened_rules q f ds image marks) (other_rules q f) (λ e. refl) (λ e. refl)
 
-pub three-at-store
+pub three_at_store
     : (q : Picture) (packet image marks : List ℕ)
     → (number_of (store_status q packet image marks) ≡ 3) ↔ ((held q (length image) (length marks) ≡ true) × WrongRtp packet)
 unfolding store_status store_checks fragment_checks fragment_frame lacking
-three-at-store q packet image marks =
+three_at_store q packet image marks =
     let own = fragment_checks (is_start packet) packet in
     let rules = judging q (fragment_of packet) (data_of packet) image marks in
     Iff.trans
-    (other-first 3 refl status.ImageNotHeld (not (held q (length image) (length marks))) (own ++ rules) refl)
+    (other_first 3 refl status.ImageNotHeld (not (held q (length image) (length marks))) (own ++ rules) refl)
     (Iff.and (not-false _, λ e. rw e)
     (Iff.trans (first_gives 3 refl own rules (no_three q (fragment_of packet) (data_of packet) image marks))
     (Iff.trans (first_gives 3 refl (fragment_frame (is_start packet) packet) (refuse status.OutsideImage (is_outside (is_start packet) packet) ∷ []) refl)

@@ -54,18 +54,18 @@ unlisted_length buf out st w =
     omega (arith, w.ordered)
 
 -- where they decide no line, the buffer has room for more
-pub undecided-room
+pub undecided_room
     : (buf out : List ℕ) (st : State) → Within buf out st → Bytes buf → decided st.ended (unlisted buf st) ≡ false
     → st.to < st.from + length buf
 unfolding BoundedNeed
-undecided-room buf out st w b e =
+undecided_room buf out st w b e =
     let few = undecided st.ended (unlisted buf st) e in
     let most = bounded_need (unlisted buf st) (part_bytes buf st.from (st.to - st.from) b) in
     omega (arith, unlisted_length buf out st w, w.large)
 
-pub line-less
+pub line_less
     : (buf out : List ℕ) (st r : State) → Within buf out st → st.going ≡ true → r ≡ state_after st (line_of (unlisted buf st)) r.used
     → left r < left st
-line-less buf out st r w g e =
+line_less buf out st r w g e =
     let s = unlisted buf st in
     rw e (after_Less st s (line_of s) r.used refl g (unlisted_length buf out st w))

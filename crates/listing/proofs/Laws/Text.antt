@@ -16,9 +16,9 @@ unfolding decimal
 decimal_length n = decimal_to_length 20 n
 
 -- so a number leaves the rest of 20 bytes
-pub number-room
+pub number_room
     : {before out : List ℕ} {at r : ℕ} (n : ℕ) → Put before at (decimal n) r out → Put before at (decimal n) r out × (r ≤ at + 20)
-number-room n p = let l = decimal_length n in (p, omega (arith, p.place))
+number_room n p = let l = decimal_length n in (p, omega (arith, p.place))
 
 -- one text after the other
 pub put_then
@@ -64,9 +64,9 @@ decimal_pair n l h =
     (append_assoc (decimal_to 18 (n / 100)) ((48 + n % 100 / 10) ∷ []) ((48 + n % 100 % 10) ∷ []))
 
 -- the last four
-pub decimal-four
+pub decimal_four
     : (n : ℕ) → 10000 ≤ n → n < 2 ^ 64 → decimal n ≡ (decimal (n / 10000) ++ two_digits (n % 10000 / 100)) ++ two_digits (n % 10000 % 100)
-decimal-four n l h =
+decimal_four n l h =
     let part : n / 100 / 100 ≡ n / 10000 = omega arith in
     let first : n / 100 % 100 ≡ n % 10000 / 100 = omega arith in
     let second : n % 100 ≡ n % 10000 % 100 = omega arith in
@@ -86,10 +86,10 @@ pub put_byte : (zs : List ℕ) (at b r : ℕ) → at < length zs → r ≡ at + 
 put_byte zs at b r h e = record { place = e; bytes = rw (e, add-one) (take-suc-set zs at b h) }
 
 -- two bytes that are the two digits
-pub put-pair
+pub put_pair
     : (zs : List ℕ) (at n x y : ℕ) → x ≡ 48 + n / 10 → y ≡ 48 + n % 10 → at + 2 ≤ length zs
     → Put zs at (two_digits n) (at + 2) (set (set zs at x) (at + 1) y)
-put-pair zs at n x y first second l =
+put_pair zs at n x y first second l =
     rw (← first, ← second)
     (put_then (put_byte zs at x (at + 1) (omega arith) refl)
     (put_byte (set zs at x) (at + 1) y (at + 2) (simp length-set (omega arith)) (omega arith)))

@@ -1,11 +1,11 @@
 -- Where there are no lines and it goes on, the bytes that are not listed yet decide none, and the buffer has room for more. Assumes nothing.
 use Rattle.std.proofs.Common.{arith}
 use borrow.Author.Tests.{not-false}
-use Rattle.listing.proofs.Laws.Lines.{undecided-room}
+use Rattle.listing.proofs.Laws.Lines.{undecided_room}
 use Rattle.listing.proofs.step.Goals as goal
 
 pub read_more-requires : goal.read_more-requires
 read_more-requires g c =
     let w = c.show_lines-state.ensures.within in
     let e = c.show_lines-state.ensures.all (not-false _ c.if-not-state.false) (omega (arith, w.room)) in
-    record { from_le_to = (w.ordered, w.inside); to_bound = undecided-room _ _ c.show_lines-state.result w (λ i. omega (arith, c.slice_known-1.given i)) e }
+    record { from_le_to = (w.ordered, w.inside); to_bound = undecided_room _ _ c.show_lines-state.result w (λ i. omega (arith, c.slice_known-1.given i)) e }

@@ -10,7 +10,7 @@ use Rattle.message_reader.specs.declared.Answer.{Answer}
 use Rattle.message_reader.specs.declared.Answer.TheVariants as reader
 use Rattle.message_reader.specs.Reading.{read_message, numbered}
 use Rattle.message_reader.specs.Values.{message_from, values_after}
-use Rattle.message_reader.proofs.Laws.Answer.{command_small, number-accepted, number_refused}
+use Rattle.message_reader.proofs.Laws.Answer.{command_small, number_accepted, number_refused}
 use Rattle.message_layout.specs.MessageLayout.{message_bytes}
 use Rattle.message_layout.proofs.Laws.MessageLayout.{length_message}
 use Rattle.host_answers.specs.declared.Answer as host
@@ -56,5 +56,5 @@ returns c = let s = c.args.bytes.now in
     let m =
     c.message_from.ensures ∙ ap (message_from (c.locate-answer.result / 256)) e.values
     ∙ ap (λ (n : ℕ). message_from (n / 256) (values_after (read_message s))) e.answer in
-    rw (c.accept.ensures, c.write.ensures, sym (ap reader.Accepted m ∙ number-accepted s (λ (n : ℕ). omega (arith, c.shared_slice_known-1.given n)) (read_message s) refl z))
+    rw (c.accept.ensures, c.write.ensures, sym (ap reader.Accepted m ∙ number_accepted s (λ (n : ℕ). omega (arith, c.shared_slice_known-1.given n)) (read_message s) refl z))
     (simp (le-ltb _ 64 c.if-record-lt-LENGTH.false) (record { answer = refl; after = refl }))

@@ -12,7 +12,7 @@ use Rattle.message_rules.specs.declared.record.Message.{Message}
 use Rattle.message_rules.specs.Record.{field_of}
 use Rattle.message_reader.specs.Theorems.{AcceptedExactly}
 use Rattle.message_reader.proofs.Laws.Reading.{accepted_exactly}
-use Rattle.message_reader.proofs.Laws.WellFormed.{each-field, sound}
+use Rattle.message_reader.proofs.Laws.WellFormed.{each_field, sound}
 use Rattle.wire.specs.Laid.{laid}
 use Rattle.wire.specs.Layout.{flag}
 use Rattle.wire.specs.LittleEndian.{bytes, written}
@@ -39,7 +39,7 @@ field_written f at xs ys zs ws h p q r =
     let place = next present 4 f.at q (omega arith) in
     (next place 4 f.len (rw i at r) (omega arith)).all
 
-pub message-written
+pub message_written_lem
     : (m : Message) (xs a b d e f g h i : List ℕ) → 64 ≤ length xs → a ≡ written 1 m.command 0 xs
     → b ≡ splice 1 (field_bytes m.friendly_name) a
     → d ≡ splice 10 (field_bytes m.rtsp_port) b
@@ -50,7 +50,7 @@ pub message-written
     → i ≡ splice 55 (field_bytes m.pin_reason) h
     → i ≡ laid (message_bytes m) xs
 unfolding message_bytes
-message-written m xs a b d e f g h i room c p q r s t u v =
+message_written_lem m xs a b d e f g h i room c p q r s t u v =
     let command = next (nothing 0 xs) 1 m.command c (omega arith) in
     let name = next_part command (field_bytes m.friendly_name) 9 (length_field m.friendly_name) p (omega arith) in
     let port = next_part name (field_bytes m.rtsp_port) 9 (length_field m.rtsp_port) q (omega arith) in
@@ -120,5 +120,5 @@ accepted_back s m xs small e room =
     let command = (sound s a.reached).command in
     message_back m xs room (omega (arith, small 3))
     (λ t.
-    let h = each-field s (λ (f : Field). f.at + f.len ≤ length s) (omega arith) (λ at n k. k.whole) a.reached t in
+    let h = each_field s (λ (f : Field). f.at + f.len ≤ length s) (omega arith) (λ at n k. k.whole) a.reached t in
     (omega arith, omega arith))

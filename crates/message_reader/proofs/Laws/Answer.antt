@@ -17,7 +17,7 @@ use Rattle.message_reader.specs.Theorems.{AcceptedExactly, AcceptedWellFormed}
 use Rattle.message_reader.specs.Values.{high, field_from, message_from, value_number, values_of, values_after, answer_number}
 use Rattle.message_reader.proofs.Laws.Reading.{value, headed_short, refusal_of, accepted_exactly, refusal_number}
 use Rattle.message_reader.proofs.Laws.Values.{value_from}
-use Rattle.message_reader.proofs.Laws.WellFormed.{each-field, accepted_well_formed}
+use Rattle.message_reader.proofs.Laws.WellFormed.{each_field, accepted_well_formed}
 
 -- a field is that of its number
 abbrev Kept : Field → Type 0
@@ -41,7 +41,7 @@ unfolding AcceptedExactly
 accepted_back s m small e =
     let a = (accepted_exactly s m).0 e in
     let short = headed_short s small a.headed in
-    kept_back m (each-field s Kept absent_kept (λ at n k. value_kept at (length_at s at) (let w = k.whole in omega arith)) a.reached)
+    kept_back m (each_field s Kept absent_kept (λ at n k. value_kept at (length_at s at) (let w = k.whole in omega arith)) a.reached)
 
 -- ---- the answer
 
@@ -56,12 +56,12 @@ module _ (s : List ℕ) (small : Bytes s) where
   command_small (answer.Accepted m) e z = let c = (accepted_well_formed s m e).command in omega (arith, small 3)
   command_small (answer.Refused st place) e z = absurd (no_refusal s st place e z)
 
-  pub number-accepted
+  pub number_accepted
       : (a : Answer) → read_message s ≡ a → answer_number a % 256 ≡ 0 → answer.Accepted (message_from (answer_number a / 256) (values_after a)) ≡ a
-  number-accepted (answer.Accepted m) e z =
+  number_accepted (answer.Accepted m) e z =
       let c : 256 * m.command / 256 ≡ m.command = omega arith in
       ap answer.Accepted (ap (λ (i : ℕ). message_from i (values_of m)) c ∙ sym (accepted_back s m small e))
-  number-accepted (answer.Refused st place) e z = absurd (no_refusal s st place e z)
+  number_accepted (answer.Refused st place) e z = absurd (no_refusal s st place e z)
 
 -- another number is that of the refusal, whose place goes with it
 pub record Refused (a : Answer) : Type 0 where
@@ -77,9 +77,9 @@ number_refused (answer.Refused st place) n =
     let k = number_at_most st in
     record { st = st; place = place; is = refl; low = omega arith; up = omega arith }
 
-pub refused-back
+pub refused_back
     : (a : Answer) → (answer_number a % 256 ≡ 0 → ⊥) → answer.Refused (status_for (answer_number a % 256)) (answer_number a / 256) ≡ a
-refused-back a n =
+refused_back a n =
     let r = number_refused a n in
     ap (λ (k : ℕ). answer.Refused (status_for k) (answer_number a / 256)) r.low
     ∙ ap (λ (st : Status). answer.Refused st (answer_number a / 256)) (status_back r.st)

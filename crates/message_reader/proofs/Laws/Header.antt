@@ -12,7 +12,7 @@ use Rattle.wire.specs.Checks.{first_of, accepted}
 use Rattle.wire.specs.declared.status.Status.{Status}
 use Rattle.wire.specs.declared.status.Status.TheVariants as status
 use Rattle.wire.proofs.Laws.Number.{number_same}
-use Rattle.wire.proofs.Laws.Checks.{by-check, by-last-check}
+use Rattle.wire.proofs.Laws.Checks.{by_check, by_last_check}
 use Rattle.message_reader.specs.declared.header.Size.{Size}
 use Rattle.message_reader.specs.declared.header.Size.TheVariants as size
 use Rattle.message_reader.specs.declared.Answer.TheVariants as answer
@@ -47,10 +47,10 @@ AtSize s st = OfSize s (cond (accepted st) (size.Declared (size_in s)) (size.Ref
 
 at_size : (s : List ℕ) → AtSize s (first_of (size_checks s))
 at_size s =
-    by-check (AtSize s) status.Truncated _ _ (λ e. short s (ltb-true (length s) 4 e))
+    by_check (AtSize s) status.Truncated _ _ (λ e. short s (ltb-true (length s) 4 e))
     (λ a.
     let four = ltb-false (length s) 4 a in
-    by-last-check (AtSize s) status.WrongSize _ (λ e. below s four (ltb-true (size_in s) 4 e))
+    by_last_check (AtSize s) status.WrongSize _ (λ e. below s four (ltb-true (size_in s) 4 e))
     (λ b. record { four = four; size = refl; counted = ltb-false (size_in s) 4 b }))
 
 of_size : (s : List ℕ) → OfSize s (read_size s)

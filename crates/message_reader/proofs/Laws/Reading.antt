@@ -26,7 +26,7 @@ use Rattle.message_reader.specs.Reading.{has_needed, is_complete, last_of, go_on
 use Rattle.message_reader.specs.Theorems.{Headed, RightTlv, Reached, Fault, Refusal, Acceptance, RefusedExactly, ZeroExactly, AcceptedExactly}
 use Rattle.message_reader.specs.Theorems as given
 use Rattle.wire.proofs.Laws.Bool.{by_test, not_both}
-use Rattle.wire.proofs.Laws.Checks.{by-check, by-last-check}
+use Rattle.wire.proofs.Laws.Checks.{by_check, by_last_check}
 use Rattle.wire.proofs.Laws.Number.{number_small}
 use Rattle.wire.proofs.Laws.Status.{same_status}
 use Rattle.message_rules.proofs.Laws.Rules.{type_small}
@@ -47,18 +47,18 @@ at_tlv : (s : List ℕ) (at : ℕ) (m : Message) → AtTlv s at m (first_of (tlv
 at_tlv s at m =
     let t = type_at s at in
     let P = AtTlv s at m in
-    by-check P status.TlvTruncated _ _ (λ e. given.truncated (inl (ltb-true (length s) (at + 3) e)))
+    by_check P status.TlvTruncated _ _ (λ e. given.truncated (inl (ltb-true (length s) (at + 3) e)))
     (λ a.
-    by-check P status.TlvTruncated _ _ (λ e. given.truncated (inr (ltb-true (length s) (next_at s at) e)))
+    by_check P status.TlvTruncated _ _ (λ e. given.truncated (inr (ltb-true (length s) (next_at s at) e)))
     (λ b.
     let whole = ltb-false (length s) (next_at s at) b in
-    by-check P status.TlvUnexpected _ _ (λ e. given.unexpected whole (eqb-true (role_of m.command t) foreign e))
+    by_check P status.TlvUnexpected _ _ (λ e. given.unexpected whole (eqb-true (role_of m.command t) foreign e))
     (λ d.
     let own = eqb-false (role_of m.command t) foreign d in
-    by-check P status.TlvLength _ _ (λ e. given.length_wrong whole own (not-true (length_ok t (length_at s at)) e))
+    by_check P status.TlvLength _ _ (λ e. given.length_wrong whole own (not-true (length_ok t (length_at s at)) e))
     (λ l.
     let fits = not-false (length_ok t (length_at s at)) l in
-    by-last-check P status.TlvRepeated _ (λ e. given.repeated whole own fits e)
+    by_last_check P status.TlvRepeated _ (λ e. given.repeated whole own fits e)
     (λ f. (record { whole = whole; expected = own; fitting = fits; first = f }, refl, refl))))))
 
 pub of_tlv : (s : List ℕ) (at : ℕ) (m : Message) → OfTlv s at m (tlv_at s at m)
@@ -166,22 +166,22 @@ of_last s m h r =
     (λ e. record { headed = h; reached = r; complete = λ t n. has_needed_lem m t (below_all (has_needed m) 8 e t (role_needed m.command t n)) n })
     (λ e. let f = one_fails (has_needed m) 8 e in let g = has_none m f.0 f.2 in given.missing f.0 h r g.0 g.1)
 
-after-tlv
+after_tlv
     : (s : List ℕ) (at : ℕ) (m : Message) (k : ℕ) → Headed s → Reached s at m → at < length s → length s ≤ at + suc k
     → ((n : ℕ) (m' : Message) → Reached s n m' → n ≤ length s → length s ≤ n + k → OfAnswer s (tlvs_from k s n m'))
     → (x : Tlv) → OfTlv s at m x → OfAnswer s (go_on (tlvs_from k s) at m x)
-after-tlv s at m k h r a f go (tlv.Right t n) p =
+after_tlv s at m k h r a f go (tlv.Right t n) p =
     rw (p.1, p.2) (go (next_at s at) (with_field m (type_at s at) (value_at s at)) (given.next r p.0) p.0.whole (omega arith))
-after-tlv s at m k h r a f go (tlv.Refused st) p = given.tlv h r a p
+after_tlv s at m k h r a f go (tlv.Refused st) p = given.tlv h r a p
 
-of-tlvs
+of_tlvs
     : (s : List ℕ) → Headed s → (k : ℕ) (at : ℕ) (m : Message) → Reached s at m → at ≤ length s → length s ≤ at + k
     → OfAnswer s (tlvs_from k s at m)
 unfolding tlvs_from
-of-tlvs s h zero at m r a f = let e : at ≡ length s = omega arith in of_last s m h (subst (λ (i : ℕ). Reached s i m) e r)
-of-tlvs s h (suc k) at m r a f =
+of_tlvs s h zero at m r a f = let e : at ≡ length s = omega arith in of_last s m h (subst (λ (i : ℕ). Reached s i m) e r)
+of_tlvs s h (suc k) at m r a f =
     by_test (OfAnswer s) (ltb at (length s)) _ _
-    (λ e. after-tlv s at m k h r (ltb-true at (length s) e) f (of-tlvs s h k) (tlv_at s at m) (of_tlv s at m))
+    (λ e. after_tlv s at m k h r (ltb-true at (length s) e) f (of_tlvs s h k) (tlv_at s at m) (of_tlv s at m))
     (λ e. let b = ltb-false at (length s) e in let q : at ≡ length s = omega arith in of_last s m h (subst (λ (i : ℕ). Reached s i m) q r))
 
 -- a fault of a TLV has a number from 5 on
@@ -207,21 +207,21 @@ of_header : (s : List ℕ) → Headed s ⊎ Refusal s (header_status s) 0
 unfolding header_status
 of_header s =
     let P : Status → Type 0 = λ st. Headed s ⊎ Refusal s st 0 in
-    by-check P status.Truncated _ _ (λ e. inr (given.before_header (ltb-true (length s) 4 e)))
+    by_check P status.Truncated _ _ (λ e. inr (given.before_header (ltb-true (length s) 4 e)))
     (λ a.
     let four = ltb-false (length s) 4 a in
-    by-check P status.WrongSize _ _ (λ e. inr (given.below_header four (ltb-true (size_in s) 4 e)))
+    by_check P status.WrongSize _ _ (λ e. inr (given.below_header four (ltb-true (size_in s) 4 e)))
     (λ b.
     let size = ltb-false (size_in s) 4 b in
-    by-check P status.Truncated _ _ (λ e. inr (given.before_size four size (ltb-true (length s) (size_in s) e)))
+    by_check P status.Truncated _ _ (λ e. inr (given.before_size four size (ltb-true (length s) (size_in s) e)))
     (λ d.
-    by-check P status.WrongSize _ _ (λ e. inr (given.left_over size (ltb-true (size_in s) (length s) e)))
+    by_check P status.WrongSize _ _ (λ e. inr (given.left_over size (ltb-true (size_in s) (length s) e)))
     (λ l.
     let all : size_in s ≡ length s = omega (arith, ltb-false (length s) (size_in s) d, ltb-false (size_in s) (length s) l) in
-    by-check P status.WrongHeader _ _ (λ e. inr (given.version four all (eqb-false (version_in s) 1 (not-true (eqb (version_in s) 1) e))))
+    by_check P status.WrongHeader _ _ (λ e. inr (given.version four all (eqb-false (version_in s) 1 (not-true (eqb (version_in s) 1) e))))
     (λ v.
     let one = eqb-true (version_in s) 1 (not-false (eqb (version_in s) 1) v) in
-    by-last-check P status.UnknownKind _ (λ e. inr (given.command four all one (not-true (known_command (command_in s)) e)))
+    by_last_check P status.UnknownKind _ (λ e. inr (given.command four all one (not-true (known_command (command_in s)) e)))
     (λ k. inl (record { four = four; size = all; version = one; command = not-false (known_command (command_in s)) k })))))))
 
 pub header_right : (s : List ℕ) → number_of (header_status s) ≡ 0 → Headed s
@@ -249,17 +249,17 @@ headed_short s small h =
 of_read : (s : List ℕ) → OfAnswer s (read_message s)
 of_read s =
     ⊎_elim
-    (λ h. rw (headed_read s h) (of-tlvs s h (length s) 4 (empty_of (command_in s)) given.start h.four (omega arith)))
+    (λ h. rw (headed_read s h) (of_tlvs s h (length s) 4 (empty_of (command_in s)) given.start h.four (omega arith)))
     (λ r. subst (OfAnswer s) (header_refused s (refusal_number s (header_status s) 0 r)) r)
     (of_header s)
 
 -- what was reached is still to be answered
-reached-rest
+reached_rest
     : (s : List ℕ) (at : ℕ) (m : Message) → 4 ≤ length s → Reached s at m
     → (k : ℕ) × (at ≤ length s) × (length s ≤ at + k) × (tlvs_from k s at m ≡ tlvs_from (length s) s 4 (empty_of (command_in s)))
-reached-rest s at m f given.start = (length s, f, omega arith, refl)
-reached-rest s at m f (given.next r t) =
-    let b = reached-rest s _ _ f r in
+reached_rest s at m f given.start = (length s, f, omega arith, refl)
+reached_rest s at m f (given.next r t) =
+    let b = reached_rest s _ _ f r in
     let q = tlvs_known b.0 s _ _ _ _ (let w = t.whole in omega arith) b.2 (tlv_taken s _ _ t) in
     (q.0, q.1, q.2, q.3 ∙ b.3)
 
@@ -277,17 +277,17 @@ refused s st place (given.left_over b h) =
 refused s st place (given.version a e h) = simp (le-ltb (length s) 4 a, e, le-ltb (length s) (length s) (omega arith), ne_eqb (version_in s) 1 h)
 refused s st place (given.command a e v h) = simp (le-ltb (length s) 4 a, e, le-ltb (length s) (length s) (omega arith), v, h)
 refused s st place (given.tlv {m = m} h r a f) =
-    let b = reached-rest s place m h.four r in
+    let b = reached_rest s place m h.four r in
     headed_read s h ∙ sym b.3 ∙ sym (tlvs_refused b.0 s place m st a b.2 (tlv_refused s place m st f))
 refused s st place (given.missing {m = m} t h r n g) =
-    let b = reached-rest s (length s) m h.four r in
+    let b = reached_rest s (length s) m h.four r in
     headed_read s h ∙ sym b.3 ∙ sym (tlvs_end b.0 s (length s) m (omega arith))
     ∙ simp (one_below (has_needed m) 8 t (role_needed m.command t n) (lacks m t n g))
 
 accepts : (s : List ℕ) (m : Message) → Acceptance s m → read_message s ≡ answer.Accepted m
 unfolding last_of is_complete
 accepts s m k =
-    let b = reached-rest s (length s) m k.headed.four k.reached in
+    let b = reached_rest s (length s) m k.headed.four k.reached in
     headed_read s k.headed ∙ sym b.3 ∙ sym (tlvs_end b.0 s (length s) m (omega arith))
     ∙ simp (all_below_lem (has_needed m) 8 (λ t h. needed_has m t (k.complete t)))
 

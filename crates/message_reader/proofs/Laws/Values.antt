@@ -15,8 +15,8 @@ use Rattle.message_rules.specs.declared.record.Field.{Field}
 use Rattle.message_rules.specs.declared.record.Message.{Message}
 use Rattle.message_rules.specs.Rules.{role_of, foreign, needed}
 use Rattle.message_rules.specs.Record.{field_of, with_field, empty_of}
-use Rattle.message_rules.proofs.Laws.Rules.{each-type, type_small, type_not_1}
-use Rattle.message_rules.proofs.Laws.Record.{past, field-with}
+use Rattle.message_rules.proofs.Laws.Rules.{each_type, type_small, type_not_1}
+use Rattle.message_rules.proofs.Laws.Record.{past, field_with}
 use Rattle.message_reader.specs.Reading.{has_needed}
 use Rattle.message_reader.specs.Values.{none, high, field_from, message_from, value_number, values_of}
 use Rattle.message_reader.proofs.Laws.Reading.{value}
@@ -42,7 +42,7 @@ number_back v =
 pub field_found : (c : ℕ) (values : List ℕ) (t : ℕ) → t < 8 → (t ≡ 1 → ⊥) → field_of (message_from c values) t ≡ field_from (get_or values t 0)
 unfolding field_of message_from
 field_found c values =
-    each-type (λ (t : ℕ). (t ≡ 1 → ⊥) → field_of (message_from c values) t ≡ field_from (get_or values t 0))
+    each_type (λ (t : ℕ). (t ≡ 1 → ⊥) → field_of (message_from c values) t ≡ field_from (get_or values t 0))
     (λ n. refl) (λ n. absurd (n refl)) (λ n. refl) (λ n. refl) (λ n. refl) (λ n. refl) (λ n. refl) (λ n. refl)
 
 -- a record whose fields are those of the values
@@ -69,7 +69,7 @@ module _ (c : ℕ) (values : List ℕ) (g : Eight values) where
   unfolding field_of message_from field_from
   all_found t = elim (dec_lt t 8) [
     | yes h ↦
-        each-type (λ (u : ℕ). field_of (message_from c values) u ≡ field_from (get_or values u 0)) refl (rw g.no_1) refl refl refl refl refl refl t h
+        each_type (λ (u : ℕ). field_of (message_from c values) u ≡ field_from (get_or values u 0)) refl (rw g.no_1) refl refl refl refl refl refl t h
     | no h ↦
         let l = g.eight in
         past (message_from c values) t (omega arith) ∙ rw (get_or-eq_default values 0 {n = t} (omega arith))
@@ -83,7 +83,7 @@ module _ (c : ℕ) (values : List ℕ) (g : Eight values) where
       let back : (t : ℕ) → get_or values t 0 ≡ value_number (field_from (get_or values t 0)) = λ t. sym (number_back (get_or values t 0)) in
       ext_get_or 0 values (values_of (message_from c values)) l
       (λ t h.
-      each-type (λ (u : ℕ). get_or values u 0 ≡ get_or (values_of (message_from c values)) u 0)
+      each_type (λ (u : ℕ). get_or values u 0 ≡ get_or (values_of (message_from c values)) u 0)
       (back 0) g.no_1 (back 2) (back 3) (back 4) (back 5) (back 6) (back 7) t (omega arith))
 
   -- one value more
@@ -104,7 +104,7 @@ module _ (c : ℕ) (values : List ℕ) (g : Eight values) where
         ∙ subst (λ (i : ℕ). field_from (number_for at n) ≡ field_from (get_or (set values t (number_for at n)) i 0)) x.0
         (rw (get_or-set_same values t (number_for at n) 0 (let l = g.eight in omega arith))))
         (λ x. x.1 ∙ all_found u ∙ rw (get_or-set_other values t u (number_for at n) 0 (λ q. x.0 (sym q))))
-        (field-with (message_from c values) t (value at n) h k u)
+        (field_with (message_from c values) t (value at n) h k u)
 
     pub set_found : at + 3 < high → with_field (message_from c values) t (value at n) ≡ message_from c (set values t (number_for at n))
     unfolding with_field message_from

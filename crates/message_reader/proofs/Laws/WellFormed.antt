@@ -14,7 +14,7 @@ use Rattle.message_reader.specs.Theorems.{RightTlv, Reached, Placed, Before, Acc
 use Rattle.message_reader.specs.Theorems as given
 use Rattle.wire.proofs.Laws.Bool.{not_both}
 use Rattle.message_rules.proofs.Laws.Rules.{type_small, type_not_1}
-use Rattle.message_rules.proofs.Laws.Record.{field-with, field_empty, command_with, command_empty}
+use Rattle.message_rules.proofs.Laws.Record.{field_with, field_empty, command_with, command_empty}
 use Rattle.message_reader.proofs.Laws.Reading.{accepted_exactly}
 use Rattle.message_rules.proofs.Laws.Size.{size_least, size_empty, size_with}
 
@@ -33,15 +33,15 @@ pub field_next
     → ((type_at s at ≡ u) × (field_of (with_field m (type_at s at) (value_at s at)) u ≡ value_at s at))
     ⊎ ((type_at s at ≡ u → ⊥) × (field_of (with_field m (type_at s at) (value_at s at)) u ≡ field_of m u))
 field_next s at m k =
-    field-with m (type_at s at) (value_at s at) (type_small m.command (type_at s at) k.expected) (type_not_1 m.command (type_at s at) k.expected)
+    field_with m (type_at s at) (value_at s at) (type_small m.command (type_at s at) k.expected) (type_not_1 m.command (type_at s at) k.expected)
 
 -- what holds of an absent value, and of that of each right TLV, holds of each field
-pub each-field
+pub each_field
     : (s : List ℕ) (P : Field → Type 0) → P absent → ((at : ℕ) (m : Message) → RightTlv s at m → P (value_at s at)) → {at : ℕ} {m : Message}
     → Reached s at m → (u : ℕ) → P (field_of m u)
-each-field s P z f given.start u = rw (field_empty (command_in s) u) z
-each-field s P z f (given.next {at} {m} r k) u =
-    ⊎_elim (λ e. rw e.1 (f at m k)) (λ e. rw e.1 (each-field s P z f r u)) (field_next s at m k u)
+each_field s P z f given.start u = rw (field_empty (command_in s) u) z
+each_field s P z f (given.next {at} {m} r k) u =
+    ⊎_elim (λ e. rw e.1 (f at m k)) (λ e. rw e.1 (each_field s P z f r u)) (field_next s at m k u)
 
 none : {A : Type 0} (c u : ℕ) → (field_of (empty_of c) u).present ≡ true → A
 none c u p = not_both (field_of (empty_of c) u).present p (ap (λ (f : Field). f.present) (field_empty c u))

@@ -28,21 +28,21 @@ message_size s c n e = let w = ((message_exactly s c n).0 e).1 in (w.four, w.the
 
 -- ---- the lines, one by one
 
-listed-after
+listed_after
     : (k place : ℕ) (s : List ℕ) (x : Line) → line_of s ≡ x → length s ≤ k
     → ((p : ℕ) (t : List ℕ) → length t < k → Listed p t (lines_from k p t)) → Listed place s ((place, x) ∷ lines_after (lines_from k) place s x)
 unfolding EndExactly
-listed-after k place s (line.Message c n) e h go =
+listed_after k place s (line.Message c n) e h go =
     let w = message_size s c n e in
     let left = length-drop n s in
     given.went_on e w.0 w.1 (go (place + n) (drop n s) (omega (arith, w.0, w.1, left)))
-listed-after k place s (line.Refused st) e h go = given.stopped e
-listed-after k place s line.End e h go = rw ((end_exactly s).0 e) given.ended
+listed_after k place s (line.Refused st) e h go = given.stopped e
+listed_after k place s line.End e h go = rw ((end_exactly s).0 e) given.ended
 
 listed_from : (k place : ℕ) (s : List ℕ) → length s < k → Listed place s (lines_from k place s)
 unfolding lines_from
 listed_from zero place s h = absurd (let no : ⊥ = omega arith in no)
-listed_from (suc k) place s h = listed-after k place s (line_of s) refl (omega arith) (listed_from k)
+listed_from (suc k) place s h = listed_after k place s (line_of s) refl (omega arith) (listed_from k)
 
 pub recording_listed : RecordingListed
 unfolding RecordingListed listing lines_at
@@ -71,11 +71,11 @@ same_lines (suc k) (suc j) place s h l =
     (same_after k j place s (line_of s) refl (omega arith) (omega arith) (λ p t a b. same_lines k j p t a b))
 
 -- an accepted message, whatever follows it
-accepted-line
+accepted_line
     : (m t : List ℕ) (r : Message) → read_message m ≡ answer.Accepted r
     → (4 ≤ length m) × (line_of (m ++ t) ≡ line.Message (command_in m) (length m))
 unfolding AcceptedExactly AcceptedWellFormed MessageExactly ReadSoFarDecides
-accepted-line m t r e =
+accepted_line m t r e =
     let a = (accepted_exactly m r).0 e in
     let w = accepted_well_formed m r e in
     let four = a.headed.four in
@@ -86,12 +86,12 @@ accepted-line m t r e =
     let need : needed_of m ≤ length m = (let n = needed_size m four (omega arith) in omega arith) in
     (four, read_so_far_decides m t need ∙ alone)
 
-lines-message
+lines_message
     : (m t : List ℕ) (r : Message) (place : ℕ) → read_message m ≡ answer.Accepted r
     → lines_at place (m ++ t) ≡ (place, line.Message (command_in m) (length m)) ∷ lines_at (place + length m) t
 unfolding lines_at lines_from
-lines-message m t r place e =
-    let a = accepted-line m t r e in
+lines_message m t r place e =
+    let a = accepted_line m t r e in
     let n = length (m ++ t) in
     ap (λ (x : Line). (place, x) ∷ lines_after (lines_from n) place (m ++ t) x) a.1
     ∙ ap (λ (l : List (ℕ × Line)). (place, line.Message (command_in m) (length m)) ∷ l)
@@ -102,7 +102,7 @@ lines_joined : (ms : List (List ℕ)) (t : List ℕ) (place : ℕ) → AllAccept
 unfolding joined lines_of
 lines_joined [] t place given.none = refl
 lines_joined (m ∷ ms) t place (given.one e k) =
-    lines-message m (joined ms t) _ place e
+    lines_message m (joined ms t) _ place e
     ∙ ap (λ (l : List (ℕ × Line)). (place, line.Message (command_in m) (length m)) ∷ l) (lines_joined ms t (place + length m) k)
 
 pub messages_listed : MessagesListed

@@ -9,7 +9,7 @@ use borrow.Author.Tests.{eqb-true, eqb-false, ne_eqb}
 use lib.Dec.{eqb}
 use Rattle.message_rules.specs.declared.record.Field.{Field}
 use Rattle.message_rules.specs.declared.record.Message.{Message}
-use Rattle.message_rules.proofs.Laws.Rules.{each-type}
+use Rattle.message_rules.proofs.Laws.Rules.{each_type}
 use Rattle.message_rules.specs.Record.{absent, field_of, with_field, empty_of}
 use Rattle.wire.proofs.Laws.Bool.{either, not_both}
 
@@ -35,14 +35,14 @@ field_other m t u f n =
 pub field_same : (m : Message) (f : Field) (t : ℕ) → t < 8 → (t ≡ 1 → ⊥) → field_of (with_field m t f) t ≡ f
 unfolding field_of with_field
 field_same m f =
-    each-type (λ (t : ℕ). (t ≡ 1 → ⊥) → field_of (with_field m t f) t ≡ f)
+    each_type (λ (t : ℕ). (t ≡ 1 → ⊥) → field_of (with_field m t f) t ≡ f)
     (λ n. refl) (λ n. absurd (n refl)) (λ n. refl) (λ n. refl) (λ n. refl) (λ n. refl) (λ n. refl) (λ n. refl)
 
 -- each field is the one that was set, or as it was
-pub field-with
+pub field_with
     : (m : Message) (t : ℕ) (f : Field) → t < 8 → (t ≡ 1 → ⊥) → (u : ℕ)
     → ((t ≡ u) × (field_of (with_field m t f) u ≡ f)) ⊎ ((t ≡ u → ⊥) × (field_of (with_field m t f) u ≡ field_of m u))
-field-with m t f h n u =
+field_with m t f h n u =
     ⊎_elim
     (λ (e : eqb t u ≡ true). let q = eqb-true t u e in inl (q, ap (field_of (with_field m t f)) (sym q) ∙ field_same m f t h n))
     (λ (e : eqb t u ≡ false). let q = eqb-false t u e in inr (q, field_other m t u f q))

@@ -14,18 +14,18 @@ use Rattle.wire.proofs.Laws.Below.{below_all}
 use Rattle.wire.proofs.Laws.Bool.{both}
 
 -- what holds of each column of the tables
-pub each-type
+pub each_type
     : (P : ℕ → Type 0) → P 0 → P 1 → P 2 → P 3 → P 4 → P 5 → P 6 → P 7
     → (t : ℕ) → t < 8 → P t
-each-type P z a b d e f g i zero h = z
-each-type P z a b d e f g i (suc zero) h = a
-each-type P z a b d e f g i (suc (suc zero)) h = b
-each-type P z a b d e f g i (suc (suc (suc zero))) h = d
-each-type P z a b d e f g i (suc (suc (suc (suc zero)))) h = e
-each-type P z a b d e f g i (suc (suc (suc (suc (suc zero))))) h = f
-each-type P z a b d e f g i (suc (suc (suc (suc (suc (suc zero)))))) h = g
-each-type P z a b d e f g i (suc (suc (suc (suc (suc (suc (suc zero))))))) h = i
-each-type P z a b d e f g i (suc (suc (suc (suc (suc (suc (suc (suc t)))))))) h = absurd (let no : ⊥ = omega arith in no)
+each_type P z a b d e f g i zero h = z
+each_type P z a b d e f g i (suc zero) h = a
+each_type P z a b d e f g i (suc (suc zero)) h = b
+each_type P z a b d e f g i (suc (suc (suc zero))) h = d
+each_type P z a b d e f g i (suc (suc (suc (suc zero)))) h = e
+each_type P z a b d e f g i (suc (suc (suc (suc (suc zero))))) h = f
+each_type P z a b d e f g i (suc (suc (suc (suc (suc (suc zero)))))) h = g
+each_type P z a b d e f g i (suc (suc (suc (suc (suc (suc (suc zero))))))) h = i
+each_type P z a b d e f g i (suc (suc (suc (suc (suc (suc (suc (suc t)))))))) h = absurd (let no : ⊥ = omega arith in no)
 
 -- what holds of every row of the table, and of no command, holds of every command
 rows
@@ -61,10 +61,10 @@ unfolding role_of
 no_type c t h = get_or-eq_default (roles_of c) foreign {n = t} (omega (arith, eight_columns c))
 
 -- a command's types are those that its row names
-pub but-three
+pub but_three
     : (c a b d : ℕ) → all_below 8 (λ (t : ℕ). eqb t a || (eqb t b || (eqb t d || eqb (role_of c t) foreign))) ≡ true
     → (k : ℕ) → (k ≡ a → ⊥) → (k ≡ b → ⊥) → (k ≡ d → ⊥) → foreign ≡ role_of c k
-but-three c a b d e k na nb nd = elim (dec_lt k 8) [
+but_three c a b d e k na nb nd = elim (dec_lt k 8) [
   | yes h ↦
       let x = below_all (λ (t : ℕ). eqb t a || (eqb t b || (eqb t d || eqb (role_of c t) foreign))) 8 e k h in
       sym (eqb-true (role_of c k) foreign (simp (ne_eqb k a na, ne_eqb k b nb, ne_eqb k d nd) at x))
@@ -74,7 +74,7 @@ but-three c a b d e k na nb nd = elim (dec_lt k 8) [
 pub no_role : (c : ℕ) → roles_of c ≡ no_roles → (k : ℕ) → foreign ≡ role_of c k
 unfolding role_of
 no_role c e k = rw e (elim (dec_lt k 8) [
-  | yes h ↦ each-type (λ (t : ℕ). foreign ≡ get_or no_roles t foreign) refl refl refl refl refl refl refl refl k h
+  | yes h ↦ each_type (λ (t : ℕ). foreign ≡ get_or no_roles t foreign) refl refl refl refl refl refl refl refl k h
   | no h ↦ sym (get_or-eq_default no_roles foreign {n = k} (omega arith))
 ])
 

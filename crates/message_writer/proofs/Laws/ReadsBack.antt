@@ -107,11 +107,11 @@ split_body s m (suc k) t h =
 abbrev front : List ℕ → Message → ℕ → List ℕ
 front s m t = head_bytes (size_to m 8) m.command ++ body_to s m t
 
-split-message
+split_message
     : (s : List ℕ) (m : Message) (t : ℕ) → t < 8 → (field_of m t).present ≡ true
     → (rest : List ℕ) × (message_of s m ≡ front s m t ++ (tlv_bytes s t (field_of m t) ++ rest))
 unfolding message_of
-split-message s m t h p =
+split_message s m t h p =
     let r = split_body s m 8 (t + 1) (omega arith) in
     let x = tlv_bytes s t (field_of m t) in
     let head = head_bytes (size_to m 8) m.command in (
@@ -133,7 +133,7 @@ module _ (s : List ℕ) (m : Message) (w : writable (length s) m ≡ true) where
     h = (field_type m t p).0
 
     split : (rest : List ℕ) × (message_of s m ≡ front s m t ++ (tlv_bytes s t (field_of m t) ++ rest))
-    split = split-message s m t h p
+    split = split_message s m t h p
 
     here : (k : ℕ) → get_or x (size_to m t + k) 0 ≡ get_or (tlv_bytes s t (field_of m t) ++ split.0) k 0
     here k = past_front x (front s m t) (tlv_bytes s t (field_of m t) ++ split.0) (size_to m t) k split.1 (front_length s m w t (omega (arith, h)))
@@ -237,11 +237,11 @@ module _ (s : List ℕ) (m : Message) (w : writable (length s) m ≡ true) where
 
 -- ---- what the writer's answer says
 
-pub answer-wrote
+pub answer_wrote
     : (s : List ℕ) (m : Message) (out : List ℕ) (n : ℕ) → write_answer s m out ≡ written.Wrote n
     → (writable (length s) m ≡ true) × (size_to m 8 ≡ n) × (size_to m 8 ≤ length out)
 unfolding write_answer
-answer-wrote s m out n =
+answer_wrote s m out n =
     let P : Written → Type 0 = λ a. a ≡ written.Wrote n → (writable (length s) m ≡ true) × (size_to m 8 ≡ n) × (size_to m 8 ≤ length out) in
     by_test P (not (writable (length s) m)) _ _ (λ e q. absurd (other q))
     (λ e. by_test P (ltb (length out) (size_to m 8)) _ _ (λ f q. absurd (other q))
@@ -254,15 +254,15 @@ answer-wrote s m out n =
     same q = cc
 
 -- the bytes that were written are the message
-pub written-bytes
+pub written_bytes
     : (s : List ℕ) (m : Message) (out : List ℕ) → writable (length s) m ≡ true → size_to m 8 ≤ length out
     → take (size_to m 8) (output s m out) ≡ message_of s m
-written-bytes s m out w h =
+written_bytes s m out w h =
     ap (take (size_to m 8)) (sym (wrote s m out w h).1) ∙ take_at (message_of s m) (drop (size_to m 8) out) (size_to m 8) (message_length s m w)
 
 pub reads_back : ReadsBack
 unfolding ReadsBack
 reads_back s m out n e =
-    let a = answer-wrote s m out n e in
-    let b : take n (output s m out) ≡ message_of s m = ap (λ (k : ℕ). take k (output s m out)) (sym a.1) ∙ written-bytes s m out a.0 a.2 in
+    let a = answer_wrote s m out n e in
+    let b : take n (output s m out) ≡ message_of s m = ap (λ (k : ℕ). take k (output s m out)) (sym a.1) ∙ written_bytes s m out a.0 a.2 in
     (placed_to m 8, rw b (read_message_lem s m a.0), rw b (same_message s m a.0))

@@ -32,7 +32,7 @@ use Rattle.message_rules.proofs.Laws.Size.{size_grows, size_there}
 use Rattle.message_writer.proofs.Laws.Writing.{wrote}
 use Rattle.message_writer.proofs.Laws.WithField.{body_empty, body-with}
 use Rattle.message_reader.proofs.Laws.WellFormed.{sound, accepted_well_formed}
-use Rattle.message_writer.proofs.Laws.ReadsBack.{placed_to, placed, placed_all, read_message_lem, written-bytes}
+use Rattle.message_writer.proofs.Laws.ReadsBack.{placed_to, placed, placed_all, read_message_lem, written_bytes}
 
 -- ---- the writer takes the record of an accepted message
 
@@ -182,7 +182,7 @@ writes_back_exactly s m out b e room =
     let w = accepted_writable s m b k in
     let h : size_to m 8 ≤ length out = omega (arith, k.filled) in
     let l : take (length s) (output s m out) ≡ message_of s m
-    = ap (λ (n : ℕ). take n (output s m out)) (sym k.filled) ∙ written-bytes s m out w h in (
+    = ap (λ (n : ℕ). take n (output s m out)) (sym k.filled) ∙ written_bytes s m out w h in (
       sym (wrote s m out w h).0 ∙ ap written.Wrote k.filled,
       λ up. l ∙ rising_message s b m e up,
       λ q.

@@ -25,7 +25,7 @@ use Rattle.wire.proofs.Laws.Below.{one_fails}
 use Rattle.message_rules.proofs.Laws.Record.{field_type}
 use Rattle.message_writer.proofs.Laws.Writing.{ok_expected, ok_within, ok_fitting, ok_absent, known, ok_below, size_small}
 use Rattle.message_writer.proofs.Laws.Writing.{message_length, not_writable, no_room, wrote}
-use Rattle.message_writer.proofs.Laws.ReadsBack.{answer-wrote}
+use Rattle.message_writer.proofs.Laws.ReadsBack.{answer_wrote}
 
 -- of two tests that don't both hold, the first fails, or it holds and the second fails
 fails : (a b : Bool) → a && b ≡ false → (a ≡ false) ⊎ (b ≡ false)
@@ -94,7 +94,7 @@ unfolding RestKept output
 rest_kept s m out = (
   refused_kept (write_answer s m out) (message_of s m) out,
   λ n e.
-      let a = answer-wrote s m out n e in
+      let a = answer_wrote s m out n e in
       let l = message_length s m a.0 in
       let o : output s m out ≡ message_of s m ++ drop n out = ap (λ (x : Written). output_after x (message_of s m) out) e in
       (ap length o ∙ (simp (length-append, length-drop) (omega (arith, l, a.1, a.2))), ap (drop n) o ∙ drop_at (message_of s m) (drop n out) n (l ∙ a.1)),

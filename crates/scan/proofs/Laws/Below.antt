@@ -45,15 +45,15 @@ pub passed_all : (size : ℕ) (p : ℕ → Bool) (k : ℕ) (b : Bool) → Passed
 passed_all size p k b h l = let e : k ≡ size = omega (arith, h.0) in h.1 ∙ rw e
 
 -- a turn of a loop that keeps the greatest, and of one that keeps the least
-pub greater-step
+pub greater_step
     : (size : ℕ) (p : ℕ → Bool) (k high m r : ℕ) → Passed size p k (not (eqb high 0)) → k < size → r ≡ greater high m → not (eqb m 0) ≡ p k
     → Passed size p (k + 1) (not (eqb r 0))
-greater-step size p k high m r h l f g = (omega arith, rw (f, greater_set, h.1, g, some_more))
+greater_step size p k high m r h l f g = (omega arith, rw (f, greater_set, h.1, g, some_more))
 
-pub lesser-step
+pub lesser_step
     : (size : ℕ) (p : ℕ → Bool) (k low m r : ℕ) → Passed size p k (eqb low 0) → k < size → r ≡ lesser low m → eqb m 0 ≡ p k
     → Passed size p (k + 1) (eqb r 0)
-lesser-step size p k low m r h l f g = (omega arith, rw (f, lesser_zero, h.1, g, some_more))
+lesser_step size p k low m r h l f g = (omega arith, rw (f, lesser_zero, h.1, g, some_more))
 
 -- a block more
 pub block_more

@@ -18,10 +18,10 @@ part_length k n xs h =
     rw e (length-take-le n (drop k xs) (rw (length-drop k xs) (omega arith)))
 
 -- a part of the bytes after the first k
-pub copy-part
+pub copy_part
     : (k e : ℕ) (from to : List ℕ) → k ≤ e → e ≤ length from → k ≤ length to
     → put_mid k (e - k) (take k from ++ drop k to) (take (e - k) (drop k from)) ≡ take e from ++ drop e to
-copy-part k e from to l f t =
+copy_part k e from to l f t =
     let n : length (take k from) ≡ k = length-take-le k from (omega arith) in
     let s : k + (e - k) ≡ e = omega arith in
     rw (take_at (take k from) (drop k to) k n, drop_at (take k from) (drop k to) k n, drop-drop (e - k) k to, s)

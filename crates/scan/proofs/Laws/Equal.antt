@@ -27,8 +27,8 @@ xor_zero a b = go (eqb a b) refl
     go false e = ne_eqb (bit_xor a b) 0 (λ z. eqb-false a b e (xor_equal a b z))
 
 -- an equal block more
-pub equal-more
+pub equal_more
     : (a b : List ℕ) (from k size : ℕ) → ((j : ℕ) → from ≤ j → j < k → get_or a j 0 ≡ get_or b j 0)
     → some_below size (λ j. other_at a b (k + j)) ≡ false → (j : ℕ) → from ≤ j → j < k + size → get_or a j 0 ≡ get_or b j 0
-equal-more a b from k size h e j u v =
+equal_more a b from k size h e j u v =
     eqb-true _ _ (not-false _ (block_more (other_at a b) from k size (λ i p q. ap not (eq-eqb _ _ (h i p q))) e j u v))

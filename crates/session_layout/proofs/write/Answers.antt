@@ -5,7 +5,7 @@ use lib.ListN.{length}
 use Rattle.session_layout.specs.SessionLayout.{session_bytes}
 use Rattle.wire.proofs.Laws.Laid.{laid_short}
 use Rattle.wire.proofs.Laws.Layout.{nothing, flag_byte}
-use Rattle.wire.proofs.Laws.Written.{next, next-as, next_part, whole}
+use Rattle.wire.proofs.Laws.Written.{next, next_as, next_part, whole}
 use Rattle.session_layout.proofs.Laws.SessionLayout.{session_length}
 use borrow.Author.Rules.{rules}
 use Rattle.session_layout.proofs.write.Goals as goal
@@ -22,7 +22,7 @@ returns c =
     let sixteen : length c.args.session.source.bytes ≡ 16 = search rules in
     let a = c.args in
     let xs = a.«record».now in
-    let state = next-as (nothing 0 xs) 1 _ c.number_of.ensures c.put_u8.ensures.bytes (omega arith) in
+    let state = next_as (nothing 0 xs) 1 _ c.number_of.ensures c.put_u8.ensures.bytes (omega arith) in
     let options = next state 1 _ c.put_u8-2.ensures.bytes (omega arith) in
-    let present = next-as options 1 _ (flag_byte a.session.source.present) c.put_u8-3.ensures.bytes (omega arith) in
+    let present = next_as options 1 _ (flag_byte a.session.source.present) c.put_u8-3.ensures.bytes (omega arith) in
     whole (next_part present a.session.source.bytes 16 sixteen c.put_id.ensures (omega arith)) (omega arith)

@@ -30,16 +30,16 @@ accepted_as_lem st e = ap at (sym (eqb-true (number_of st) 0 e))
     at n = record { number = n; place = 0 }
 
 -- what holds of a check's refusal where its condition holds, and of the checks after it where it doesn't, holds of the first refusal
-pub by-check
+pub by_check
     : (P : Status → Type 0) (st : Status) (b : Bool) (cs : List Check) → (b ≡ true → P st) → (b ≡ false → P (first_of cs))
     → P (first_of (refuse st b ∷ cs))
 unfolding first_of
-by-check P st b cs f g = by_test P b st (first_of cs) f g
+by_check P st b cs f g = by_test P b st (first_of cs) f g
 
-pub by-last-check
+pub by_last_check
     : (P : Status → Type 0) (st : Status) (b : Bool) → (b ≡ true → P st) → (b ≡ false → P status.Accepted) → P (first_of (refuse st b ∷ []))
 unfolding first_of
-by-last-check P st b f g = by_test P b st status.Accepted f g
+by_last_check P st b f g = by_test P b st status.Accepted f g
 
 -- A number is given exactly under its condition.
 
@@ -65,17 +65,17 @@ module _ (n : ℕ) (is-refusal : eqb 0 n ≡ false) where
   first_gives (refuse s false ∷ cs) ds l = first_gives cs ds l
 
   -- a check of another number: it must not hold, and those after it decide
-  pub other-first
+  pub other_first
       : (s : Status) (b : Bool) (cs : List Check) → eqb (number_of s) n ≡ false
       → (number_of (first_of (refuse s b ∷ cs)) ≡ n) ↔ ((b ≡ false) × (number_of (first_of cs) ≡ n))
   unfolding first_of
-  other-first s true cs o = (λ e. absurd (eqb-false (number_of s) n o e), λ h. absurd (false≢true (sym h.0)))
-  other-first s false cs o = (λ e. (refl, e), λ h. h.1)
+  other_first s true cs o = (λ e. absurd (eqb-false (number_of s) n o e), λ h. absurd (false≢true (sym h.0)))
+  other_first s false cs o = (λ e. (refl, e), λ h. h.1)
 
   -- the check of this number, where none after it gives it
-  pub own-check
+  pub own_check
       : (s : Status) (b : Bool) (cs : List Check) → number_of s ≡ n → lacking n cs ≡ true
       → (number_of (first_of (refuse s b ∷ cs)) ≡ n) ↔ (b ≡ true)
   unfolding first_of
-  own-check s true cs e l = (λ g. refl, λ h. e)
-  own-check s false cs e l = (λ g. absurd (not_given cs l g), λ h. absurd (false≢true h))
+  own_check s true cs e l = (λ g. refl, λ h. e)
+  own_check s false cs e l = (λ g. absurd (not_given cs l g), λ h. absurd (false≢true h))

@@ -6,7 +6,7 @@ use borrow.Author.Tests.{lt-leb}
 use Rattle.wire.specs.Splice.{splice}
 use Rattle.wire.specs.Number.{low_at, rest_at, joined, number_in, bytes_in, written_in}
 use Rattle.wire.proofs.Laws.Number.{length_bytes}
-use Rattle.wire.proofs.Laws.Splice.{splice_none, splice-snoc, splice-next}
+use Rattle.wire.proofs.Laws.Splice.{splice_none, splice_snoc, splice_next}
 
 -- where the other bytes begin
 abbrev pub others_at : Bool → ℕ → ℕ → ℕ
@@ -70,14 +70,14 @@ module _ {big : Bool} {s : List ℕ} {at n k v : ℕ} (r : Read big s at n k v) 
 one_laid : (at b : ℕ) (xs : List ℕ) → at < length xs → splice at (b ∷ []) xs ≡ set xs at b
 one_laid at b xs h =
     let e : at + 0 ≡ at = omega arith in
-    splice-snoc at [] b xs (omega arith) ∙ splice_none at (set xs (at + 0) b) ∙ ap (λ (i : ℕ). set xs i b) e
+    splice_snoc at [] b xs (omega arith) ∙ splice_none at (set xs (at + 0) b) ∙ ap (λ (i : ℕ). set xs i b) e
 
 -- of bytes that are laid, the least significant may be set first
-splice-joined
+splice_joined
     : (big : Bool) (at n : ℕ) (bs : List ℕ) (b : ℕ) (xs : List ℕ) → length bs ≡ n → at + suc n ≤ length xs
     → splice at (joined big bs b) xs ≡ splice (rest_at big at) bs (set xs (low_at big n at) b)
-splice-joined true at n bs b xs e h = splice-snoc at bs b xs (omega arith) ∙ rw e
-splice-joined false at n bs b xs e h = rw (sym (one_laid at b xs (omega arith))) (sym (splice-next at (b ∷ []) bs xs (omega arith)))
+splice_joined true at n bs b xs e h = splice_snoc at bs b xs (omega arith) ∙ rw e
+splice_joined false at n bs b xs e h = rw (sym (one_laid at b xs (omega arith))) (sym (splice_next at (b ∷ []) bs xs (omega arith)))
 
 others_within : (big : Bool) (n k at m : ℕ) → k < n → at + n ≤ m → others_at big (n - suc k) at + suc k ≤ m
 others_within true n k at m l h = omega arith
@@ -93,17 +93,17 @@ pub none_wrote : (big : Bool) (at n v : ℕ) (xs : List ℕ) → Wrote big at n 
 none_wrote big at n v xs =
     record { some = omega arith; length_same = refl; left = rw (all_others big (n - n) at (omega arith)) }
 
-pub one-wrote
+pub one_wrote
     : (big : Bool) (at n v : ℕ) (xs : List ℕ) (k rest : ℕ) (ys : List ℕ) → Wrote big at n v xs k rest ys → 0 < k → at + n ≤ length xs
     → Wrote big at n v xs (k - 1) (rest / 256) (set ys (at + place big n (k - 1)) (rest % 256))
 unfolding bytes_in
-one-wrote big at n v xs zero rest ys w l h = absurd (let no : ⊥ = omega arith in no)
-one-wrote big at n v xs (suc k) rest ys w l h =
+one_wrote big at n v xs zero rest ys w l h = absurd (let no : ⊥ = omega arith in no)
+one_wrote big at n v xs (suc k) rest ys w l h =
     let below = w.some in
     let same = w.length_same in
     let e : suc k - 1 ≡ k = omega arith in
     let to = others_at big (n - suc k) at in
-    let turn = splice-joined big to k (bytes_in big k (rest / 256)) (rest % 256) ys (length_bytes big k (rest / 256)) (others_within big n k at (length ys) (omega arith) (omega arith)) in
+    let turn = splice_joined big to k (bytes_in big k (rest / 256)) (rest % 256) ys (length_bytes big k (rest / 256)) (others_within big n k at (length ys) (omega arith) (omega arith)) in
     rw e
     (record {
       some = omega arith;
@@ -112,11 +112,11 @@ one-wrote big at n v xs (suc k) rest ys w l h =
     })
 
 -- at last all is written
-pub all-wrote
+pub all_wrote
     : (big : Bool) (at n v : ℕ) (xs : List ℕ) (k rest : ℕ) (ys : List ℕ) → Wrote big at n v xs k rest ys → k ≡ 0 → at + n ≤ length xs
     → ys ≡ written_in big n v at xs
 unfolding written_in bytes_in
-all-wrote big at n v xs k rest ys w z h =
+all_wrote big at n v xs k rest ys w z h =
     simp (le-leb (at + n) (length xs) h) (sym (splice_none (others_at big (n - k) at) ys) ∙ ap (λ (m : ℕ). splice (others_at big (n - k) at) (bytes_in big m rest) ys) (sym z) ∙ w.left)
 
 -- where the bytes don't fit, none is

@@ -74,13 +74,13 @@ reads_back big n v at xs h small =
     ∙ number_bytes_lem big n v small)
 
 -- a part is its least significant byte joined to the others
-part-joined
+part_joined
     : (big : Bool) (n at : ℕ) (s : List ℕ) → at + suc n ≤ length s
     → joined big (take n (drop (rest_at big at) s)) (get_or s (low_at big n at) 0) ≡ take (suc n) (drop at s)
-part-joined true n at s h =
+part_joined true n at s h =
     let long : n < length (drop at s) = simp length-drop (omega arith) in
     rw (take-suc (drop at s) n 0 long, get_or-drop)
-part-joined false n at s h = let i : at + 1 ≡ suc at = omega arith in rw (i, drop-cons s at 0 (omega arith))
+part_joined false n at s h = let i : at + 1 ≡ suc at = omega arith in rw (i, drop-cons s at 0 (omega arith))
 
 rest_within : (big : Bool) (n at m : ℕ) → at + suc n ≤ m → rest_at big at + n ≤ m
 rest_within true n at m h = omega arith
@@ -95,4 +95,4 @@ writes_back big (suc n) at s h small =
     let v = number_in big n s (rest_at big at) in
     let rest : (256 * v + b) / 256 ≡ v = omega (arith, small (low_at big n at)) in
     let low : (256 * v + b) % 256 ≡ b = omega (arith, small (low_at big n at)) in
-    rw (rest, low, writes_back big n (rest_at big at) s (rest_within big n at (length s) h) small) (part-joined big n at s h)
+    rw (rest, low, writes_back big n (rest_at big at) s (rest_within big n at (length s) h) small) (part_joined big n at s h)

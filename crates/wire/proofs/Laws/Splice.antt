@@ -19,11 +19,11 @@ unfolding splice
 splice_none at xs = let e : at + 0 ≡ at = omega arith in rw e (take-append-drop at xs)
 
 -- the last of the bytes may be stored first
-pub splice-snoc
+pub splice_snoc
     : (at : ℕ) (ds : List ℕ) (b : ℕ) (xs : List ℕ) → at + length ds < length xs
     → splice at (ds ++ (b ∷ [])) xs ≡ splice at ds (set xs (at + length ds) b)
 unfolding splice
-splice-snoc at ds b xs h =
+splice_snoc at ds b xs h =
     let i = at + length ds in
     let e : at + length (ds ++ (b ∷ [])) ≡ suc i = simp length-append (omega arith) in
     rw (e, append_assoc ds (b ∷ []) (drop (suc i) xs), take-set-le at xs i b (omega arith), drop-cons (set xs i b) i 0 (lt-length-set xs i b h), get_or-set_same xs i b 0 h, drop-set-lt (suc i) xs i b (omega arith))
@@ -81,10 +81,10 @@ module _ (at : ℕ) (ds xs : List ℕ) (h : at + length ds ≤ length xs) (i : �
       ]
 
 -- bytes laid right after others are laid with them
-pub splice-next
+pub splice_next
     : (at : ℕ) (ds es xs : List ℕ) → at + length ds + length es ≤ length xs
     → splice (at + length ds) es (splice at ds xs) ≡ splice at (ds ++ es) xs
-splice-next at ds es xs h =
+splice_next at ds es xs h =
     let l : length (ds ++ es) ≡ length ds + length es = length-append ds es in
     let one : length (splice at ds xs) ≡ length xs = length_splice at ds xs (omega arith) in
     let two : length (splice (at + length ds) es (splice at ds xs)) ≡ length (splice at ds xs) = length_splice (at + length ds) es (splice at ds xs) (omega arith) in

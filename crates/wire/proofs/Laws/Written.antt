@@ -4,7 +4,7 @@ use Rattle.wire.specs.Laid.{laid}
 use Rattle.wire.specs.Number.{bytes_in, written_in}
 use Rattle.wire.specs.Splice.{splice}
 use Rattle.wire.proofs.Laws.Number.{length_bytes}
-use Rattle.wire.proofs.Laws.Splice.{length_splice, splice_none, splice-next}
+use Rattle.wire.proofs.Laws.Splice.{length_splice, splice_none, splice_next}
 
 -- ys is xs with ds laid in the places from `at` to `to`; its numbers have the order `big`
 pub record Written (big : Bool) (at to : ℕ) (ds xs ys : List ℕ) : Type 0 where
@@ -20,7 +20,7 @@ module _ {big : Bool} {at to : ℕ} {ds xs ys : List ℕ} (w : Written big at to
   next_part es n l e h =
       let d = w.end in
       record {
-        all = e ∙ rw (w.all, sym w.end) (splice-next at ds es xs (omega arith));
+        all = e ∙ rw (w.all, sym w.end) (splice_next at ds es xs (omega arith));
         end = rw (length-append ds es) (omega arith);
       }
 
@@ -35,10 +35,10 @@ module _ {big : Bool} {at to : ℕ} {ds xs ys : List ℕ} (w : Written big at to
       next_part (bytes_in big n v) n (length_bytes big n v) (e ∙ simp (le-leb (to + n) (length ys) (omega arith))) h
 
   -- so is a number that comes in another form
-  pub next-as
+  pub next_as
       : {zs : List ℕ} {u : ℕ} (n v : ℕ) → u ≡ v → zs ≡ written_in big n u to ys → to + n ≤ length xs
       → Written big at (to + n) (ds ++ bytes_in big n v) xs zs
-  next-as n v same e h = next n v (e ∙ ap (λ (x : ℕ). written_in big n x to ys) same) h
+  next_as n v same e h = next n v (e ∙ ap (λ (x : ℕ). written_in big n x to ys) same) h
 
 -- where all is written, the record is laid
 pub whole : {big : Bool} {to : ℕ} {ds xs ys : List ℕ} → Written big 0 to ds xs ys → to ≤ length xs → ys ≡ laid ds xs

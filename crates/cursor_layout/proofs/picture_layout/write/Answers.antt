@@ -5,7 +5,7 @@ use Rattle.wire.specs.Number.{bytes_in}
 use Rattle.cursor_layout.specs.PictureLayout.{start_bytes, picture_bytes}
 use Rattle.wire.proofs.Laws.Laid.{laid_short}
 use Rattle.wire.proofs.Laws.Layout.{nothing, flag_byte}
-use Rattle.wire.proofs.Laws.Written.{next, next-as, next_part, whole}
+use Rattle.wire.proofs.Laws.Written.{next, next_as, next_part, whole}
 use Rattle.cursor_layout.proofs.Laws.PictureLayout.{start_length}
 use Rattle.cursor_layout.proofs.picture_layout.write.Goals as goal
 
@@ -18,7 +18,7 @@ pub returns : goal.returns
 unfolding picture_bytes
 returns c = let a = c.args in
     let xs = a.«record».now in
-    let opened = next-as (nothing 0 xs) 1 _ (flag_byte a.picture.opened) c.put_u8.ensures.bytes (omega arith) in
+    let opened = next_as (nothing 0 xs) 1 _ (flag_byte a.picture.opened) c.put_u8.ensures.bytes (omega arith) in
     let id = next opened 2 _ c.put_u16.ensures.bytes (omega arith) in
     let total = next id 4 _ c.put_u32.ensures.bytes (omega arith) in
     let opening = next total 2 _ c.put_u16-2.ensures.bytes (omega arith) in

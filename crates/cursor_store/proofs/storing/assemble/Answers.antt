@@ -1,12 +1,12 @@
 -- 17, or the packet's refusal, or the fragment is taken. Assumes nothing.
 use mathlib.Core.Path.{sym, ◌∙◌}
 use borrow.Author.Tests.{eq-eqb, ne_eqb}
-use Rattle.cursor_store.proofs.Laws.Assembling.{parsed_inside, assembled-not-held, assembled-refused, assembled-taken}
+use Rattle.cursor_store.proofs.Laws.Assembling.{parsed_inside, assembled_not_held, assembled-refused, assembled-taken}
 use Rattle.cursor_store.proofs.storing.assemble.Goals as goal
 
 pub returns-then-not-is_held : goal.returns-then-not-is_held
 returns-then-not-is_held c = let a = c.args in
-    sym (assembled-not-held a.picture a.packet.now a.image.now a.marks.now (sym c.is_held.ensures ∙ c.if-not-is_held.true))
+    sym (assembled_not_held a.picture a.packet.now a.image.now a.marks.now (sym c.is_held.ensures ∙ c.if-not-is_held.true))
 
 pub returns-then-number-ne0 : goal.returns-then-number-ne0
 returns-then-number-ne0 c = let a = c.args in

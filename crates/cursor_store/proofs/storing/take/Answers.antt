@@ -6,7 +6,7 @@ use borrow.Author.Tests.{eq-eqb, ne_eqb}
 use Rattle.wire.specs.Checks.{accepted}
 use Rattle.cursor_picture.proofs.Laws.Picture.{room_says}
 use Rattle.cursor_store.specs.Assembling.{image_after, marks_after, picture_after, assembled_as, fragment_assembled}
-use Rattle.cursor_store.proofs.Laws.Judging.{judged-room}
+use Rattle.cursor_store.proofs.Laws.Judging.{judged_room}
 use Rattle.cursor_store.proofs.storing.take.Goals as goal
 
 pub returns-then-number-ne0 : goal.returns-then-number-ne0
@@ -15,12 +15,12 @@ returns-then-number-ne0 c = simp (← c.judge-judged.ensures, ← c.number.ensur
 
 pub open_for-opened-requires : goal.open_for-opened-requires
 open_for-opened-requires c = let a = c.args in
-    let h = judged-room a.picture a.fragment a.«data».now a.image.now a.marks.now (ap accepted (sym c.judge-judged.ensures) ∙ eq-eqb _ 0 (sym c.number.ensures ∙ c.if-number-ne0.false)) in
+    let h = judged_room a.picture a.fragment a.«data».now a.image.now a.marks.now (ap accepted (sym c.judge-judged.ensures) ∙ eq-eqb _ 0 (sym c.number.ensures ∙ c.if-number-ne0.false)) in
     (room_says a.fragment.total (length a.image.now) (length a.marks.now) h).1
 
 pub put-requires : goal.put-requires
 put-requires c = let a = c.args in
-    let h = judged-room a.picture a.fragment a.«data».now a.image.now a.marks.now (ap accepted (sym c.judge-judged.ensures) ∙ eq-eqb _ 0 (sym c.number.ensures ∙ c.if-number-ne0.false)) in
+    let h = judged_room a.picture a.fragment a.«data».now a.image.now a.marks.now (ap accepted (sym c.judge-judged.ensures) ∙ eq-eqb _ 0 (sym c.number.ensures ∙ c.if-number-ne0.false)) in
     let r = room_says a.fragment.total (length a.image.now) (length a.marks.now) h in
     (omega (arith, r.0, c.requires), omega (arith, r.1, c.requires))
 

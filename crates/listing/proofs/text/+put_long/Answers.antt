@@ -1,6 +1,6 @@
 -- The last four digits after those of the part before them, which is smaller. Assumes nothing.
 use Rattle.std.proofs.Common.{arith}
-use Rattle.listing.proofs.Laws.Text.{decimal_pair, pair_length, decimal-four, four_length, put_then}
+use Rattle.listing.proofs.Laws.Text.{decimal_pair, pair_length, decimal_four, four_length, put_then}
 use Rattle.listing.proofs.text.+put_long.Goals as goal
 
 pub put_short-at-requires : goal.put_short-at-requires
@@ -23,5 +23,5 @@ put_two-requires-2 t c = let l = four_length c.args.n (omega arith) (omega arith
 
 pub returns : goal.returns
 returns t c =
-    rw (decimal-four c.args.n (omega arith) (omega arith))
+    rw (decimal_four c.args.n (omega arith) (omega arith))
     (put_then (put_then c.put_long-at.ensures c.put_two-at.ensures) c.put_two-2.ensures)

@@ -6,7 +6,7 @@ use native.Mathlib.Decide.{dec_lt}
 use lib.ListN.{length}
 use borrow.Rule.Slice.PartMut.{same_len_mid}
 use Rattle.scan.specs.Order.{lesser}
-use Rattle.scan.proofs.Laws.Bytes.{part_length, copy-part, copy_end}
+use Rattle.scan.proofs.Laws.Bytes.{part_length, copy_part, copy_end}
 use Rattle.scan.proofs.Laws.Order.{lesser_le, lesser_first, lesser_second}
 use Rattle.scan.proofs.bytes.copy.Goals as goal
 
@@ -82,7 +82,7 @@ loop-k-preserved c = let w = c in
       s.2,
       l.invariant.1,
       same_len_mid l.k (l.k + size - l.k) l.to w.copy_by_block.new.to (ap length w.copy_by_block.ensures ∙ f ∙ sym t) ∙ l.invariant.2,
-      rw (w.copy_by_block.ensures, l.invariant.3) (copy-part l.k (l.k + size) a.from.now a.to.now (omega arith) (omega arith) (omega arith)),
+      rw (w.copy_by_block.ensures, l.invariant.3) (copy_part l.k (l.k + size) a.from.now a.to.now (omega arith) (omega arith) (omega arith)),
     )
 
 pub shape_of-to : goal.shape_of-to

@@ -1,7 +1,7 @@
 -- Both hold the same byte in each place from `from` on and below k. Assumes nothing.
 use mathlib.Core.Path.{sym, ◌∙◌}
 use native.Mathlib.Omega.{arith}
-use Rattle.scan.proofs.Laws.Equal.{equal-more}
+use Rattle.scan.proofs.Laws.Equal.{equal_more}
 use Rattle.scan.proofs.equal.skip.Goals as goal
 
 pub loop-k-init : goal.loop-k-init
@@ -35,7 +35,7 @@ pub loop-k-preserved : goal.loop-k-preserved
 loop-k-preserved c = let h = c in
     let l = h.loop-k in
     let g = h.args in
-    (omega arith, omega arith, equal-more g.a.now g.b.now g.from l.k g.size l.invariant.2 (sym h.any_other.ensures ∙ c.if-any_other.false))
+    (omega arith, omega arith, equal_more g.a.now g.b.now g.from l.k g.size l.invariant.2 (sym h.any_other.ensures ∙ c.if-any_other.false))
 
 pub returns : goal.returns
 returns c = c.loop-k.invariant

@@ -1,7 +1,7 @@
 -- What is still to be written on the bytes as they are, k bytes of the rest, is what was to be written at first. Assumes nothing.
 use Rattle.std.proofs.Common.{ℕ, ◌+◌, ◌-◌, ◌/◌, ◌%◌, ◌≤◌, length, set, sym, subst, arith, rules, le-leb}
 use borrow.Author.Tests.{lt-leb}
-use Rattle.wire.proofs.Laws.Digits.{Wrote, none_wrote, one-wrote, all-wrote, refused}
+use Rattle.wire.proofs.Laws.Digits.{Wrote, none_wrote, one_wrote, all_wrote, refused}
 use Rattle.wire.proofs.order.write.Goals as goal
 
 pub returns-then-out-n : goal.returns-then-out-n
@@ -26,7 +26,7 @@ loop-k-preserved c = let l = c.loop-k in
     let a = c.args in
     subst (λ (i : ℕ). Wrote a.big a.at a.n a.v a.out.now (l.k - 1) (l.rest / 256) (set l.out (a.at + i) (l.rest % 256)))
     (sym c.place.ensures.0)
-    (one-wrote a.big a.at a.n a.v a.out.now l.k l.rest l.out l.invariant (omega arith) (omega arith))
+    (one_wrote a.big a.at a.n a.v a.out.now l.k l.rest l.out l.invariant (omega arith) (omega arith))
 
 pub shape_of-out : goal.shape_of-out
 shape_of-out c = c.loop-k.invariant.length_same
@@ -35,4 +35,4 @@ pub returns : goal.returns
 returns c = let l = c.loop-k in
     let a = c.args in
     let fits : a.at + a.n ≤ length a.out.now = omega arith in
-    record { fits = sym (le-leb _ _ fits); bytes = all-wrote a.big a.at a.n a.v a.out.now l.k l.rest l.out l.invariant (omega arith) fits }
+    record { fits = sym (le-leb _ _ fits); bytes = all_wrote a.big a.at a.n a.v a.out.now l.k l.rest l.out l.invariant (omega arith) fits }
