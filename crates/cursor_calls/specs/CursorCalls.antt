@@ -4,9 +4,9 @@ use Rattle.wire.specs.declared.status.Status.TheVariants as status
 use Rattle.cursor_pointer.specs.declared.Pointer.{Pointer}
 use Rattle.cursor_pointer.specs.declared.PointerAnswer.{PointerAnswer}
 use Rattle.cursor_pointer.specs.declared.PointerAnswer.TheVariants as position
-use Rattle.cursor_pointer.specs.Pointer.{positioned, numbered as positionNumber}
+use Rattle.cursor_pointer.specs.Pointer.{positioned, numbered as position_number}
 use Rattle.cursor_picture.specs.declared.completeness.CompleteAnswer.{CompleteAnswer}
-use Rattle.cursor_picture.specs.Completeness.{completeness, numbered as completeNumber, is_yes}
+use Rattle.cursor_picture.specs.Completeness.{completeness, numbered as complete_number, is_yes}
 use Rattle.cursor_store.specs.declared.storing.StoreAnswer.{StoreAnswer}
 use Rattle.cursor_store.specs.declared.storing.StoreAnswer.TheVariants as store
 use Rattle.cursor_store.specs.Assembling.{Outcome}
@@ -34,7 +34,7 @@ pointer_set (position.Accepted p) ps = laid (pointer_bytes p) ps
 pointer_set (position.Refused s place) ps = ps
 
 abbrev pub position_answered : PointerAnswer → List ℕ → PositionOutcome
-position_answered a ps = after_position (answer_as (positionNumber a)) (pointer_set a ps)
+position_answered a ps = after_position (answer_as (position_number a)) (pointer_set a ps)
 
 unfoldable pub cursor_position : List ℕ → List ℕ → PositionOutcome
 cursor_position ps packet =
@@ -80,7 +80,7 @@ cursor_store ps qs packet image marks =
 -- The completeness question: a refusal by its number.
 
 abbrev pub yes_or_no : CompleteAnswer → Yes
-yes_or_no a = record { status = (completeNumber a).number; yes = is_yes a }
+yes_or_no a = record { status = (complete_number a).number; yes = is_yes a }
 
 unfoldable pub cursor_complete : List ℕ → List ℕ → List ℕ → Yes
 cursor_complete qs image marks =

@@ -3,9 +3,9 @@
 //! | Form | Example | Found where |
 //! |---|---|---|
 //! | crate | `wire` | crates.txt |
-//! | crate File, crate File.name | `wire Sequence.isNewer` | that file of the crate's specs |
+//! | crate File, crate File.name | `wire Sequence.is_newer` | that file of the crate's specs |
 //! | crate Laws.File | `wire Laws.Below` | that file of the crate's laws |
-//! | File.name, Record.field | `Sequence.isNewer` | a crate that the same line names, else any |
+//! | File.name, Record.field | `Sequence.is_newer` | a crate that the same line names, else any |
 //! | crate::module::item, crate::{a, b} | `wire::sequence::newer` | that module of the crate |
 //! | module::item, Type::item | `Session::fresh` | any crate |
 //! | path | `crates/wire/src` | the file or the folder; not below `target/`, where it is built |

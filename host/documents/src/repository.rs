@@ -42,9 +42,10 @@ impl Repository {
         let mut exports = BTreeSet::new();
         let mut asking = BTreeSet::new();
         for line in text(root, "crates.txt")?.lines() {
-            let Some((name, _)) = line.split_once(':').filter(|_| !line.starts_with('#')) else {
+            let Some((front, _)) = line.split_once(':').filter(|_| !line.starts_with('#')) else {
                 continue;
             };
+            let name = front.split(' ').next().unwrap_or(front);
             let folder = root.join("crates").join(name);
             let mut found = Crate::default();
             for (file, text) in files(&folder.join("specs"), "antt")? {
@@ -107,11 +108,12 @@ pub fn text(root: &Path, file: &str) -> Result<String, String> {
     fs::read_to_string(root.join(file)).map_err(|error| format!("{file}: {error}"))
 }
 
-/// README and the files of docs/.
+/// README and the files of docs/, but for PORT.md, which names what was beside what is.
 pub fn documents(root: &Path) -> Result<Vec<String>, String> {
     let mut found = vec!["README.md".to_string()];
     found
         .extend(files(&root.join("docs"), "md")?.into_keys().map(|name| format!("docs/{name}.md")));
+    found.retain(|name| name != "docs/PORT.md");
     Ok(found)
 }
 

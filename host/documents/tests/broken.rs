@@ -28,9 +28,9 @@ fn the_documents_as_they_are() {
 fn a_broken_name_of_each_kind() {
     let promises = "docs/PROMISES.md";
     for (document, old, new) in [
-        (promises, "`wire Sequence.isNewer`", "`wire Sequence.isOlder`"),
-        (promises, "`wire Sequence.isNewer`", "`wires Sequence.isNewer`"),
-        (promises, "`wire Sequence.isNewer`", "`wire Order.isNewer`"),
+        (promises, "`wire Sequence.is_newer`", "`wire Sequence.is_older`"),
+        (promises, "`wire Sequence.is_newer`", "`wires Sequence.is_newer`"),
+        (promises, "`wire Sequence.is_newer`", "`wire Order.is_newer`"),
         (promises, "`wire::sequence::newer`", "`wire::sequence::older`"),
         (promises, "`wire::sequence::newer`", "`wire::order::newer`"),
         (
@@ -38,7 +38,7 @@ fn a_broken_name_of_each_kind() {
             "`wire::signed::{signed16, unsigned16}`",
             "`wire::signed::{signed16, unsigned17}`",
         ),
-        (promises, "`Shown.each-accepted`", "`Shown.accepted`"),
+        (promises, "`Shown.each_accepted`", "`Shown.accepted`"),
         (promises, "`OpenedAs`", "`OpenAs`"),
         (promises, "`ashlarsilk_limits_read`", "`ashlarsilk_limits_reads`"),
         (promises, "`text decimal_for_hex`", "`text decimal_for_octal`"),

@@ -42,7 +42,7 @@ use Rattle.cursor_layout.specs.PictureLayout.{picture_length, picture_of, pictur
 use Rattle.cursor_layout.proofs.Laws.PointerLayout.{signed_small, pointer_reads_back, pointer_bytes_lem}
 use Rattle.cursor_layout.proofs.Laws.PictureLayout.{picture_fits, left_reads, left_length, left_bytes}
 use Rattle.host_answers.specs.declared.Yes.{Yes}
-use Rattle.host_answers.specs.Answers.{accepted as acceptedAnswer, refused}
+use Rattle.host_answers.specs.Answers.{accepted as accepted_answer, refused}
 use Rattle.cursor_calls.specs.CursorCalls.{records_whole, pointer_left, after_store, cursor_store, yes_or_no, cursor_complete}
 use Rattle.cursor_calls.specs.Records.{Lent, called, next_lent, RecordsLent, PacketsLent, over_records, decoded, StoredFits, RunDecoded, DemandThreeOverRecords}
 
@@ -139,7 +139,7 @@ module _ (s : Lent) (r : RecordsLent s) (packet : List ℕ) where
   called_accepted
       : accepted judged ≡ true
       → called s packet
-      ≡ after_store acceptedAnswer (pointer_left packet (pointer_after p packet) s.pointer) (picture_left q (picture_after q (fragment_of packet)) s.picture)
+      ≡ after_store accepted_answer (pointer_left packet (pointer_after p packet) s.pointer) (picture_left q (picture_after q (fragment_of packet)) s.picture)
       (image_after (fragment_of packet) (data_of packet) s.image) (marks_after q (fragment_of packet) (data_of packet) s.marks)
   unfolding cursor_store
   called_accepted e = simp r.whole (rw (stored_accepted p q packet s.image s.marks e))
