@@ -19,6 +19,9 @@ use crate::repository::{Crate, Repository};
 /// and of the protocol.
 const WORDS: &[&str] = &["requires", "rt", "cargo", "cc", "NONE"];
 
+/// What a contract says of a lent value, as `s.old`.
+const ENDS: [&str; 3] = [".now", ".old", ".new"];
+
 /// The spans of one line that are names and are not found. The crates that the line names decide for
 /// names that say no crate.
 pub fn not_found<'a>(repository: &Repository, spans: &'a [String]) -> Vec<&'a str> {
@@ -47,6 +50,7 @@ fn is_found(repository: &Repository, named: &[&Crate], span: &str) -> bool {
         [word] if word.contains('/') && is_plain(word) => {
             word.starts_with("target/") || repository.has_path(word)
         }
+        [word] if ENDS.iter().any(|end| word.ends_with(end)) => true,
         [word] if is_dotted(word) => {
             let any: Vec<&Crate> = repository.crates.values().collect();
             let among = if named.is_empty() { &any[..] } else { named };
