@@ -162,11 +162,11 @@ unfolding next stored assembled assembled_as store_status store_checks held has_
 picture_kept = (refl, refl, refl, refl)
 
 -- OutsideKept: the place before those of a continuation of the opened id; and the place after the total
-pub Outside-Kept
+pub outside_kept
     : (covers (middle 31) 0 ≡ false) × (of_opened opened.picture (fragment_of (middle 31)) ≡ true)
     × (covers (middle 31) 4 ≡ false) × ((fragment_of (middle 31)).total ≤ 4)
 unfolding of_opened fragment_as number_in offset_bits place_of signed image_data header_length
-Outside-Kept = (refl, refl, refl, omega arith)
+outside_kept = (refl, refl, refl, omega arith)
 
 -- FormerStaysClosed: a start of id 9 with sequence number 0 opens its picture; then comes a continuation of id 8 with sequence number 65,535
 abbrev pub late : List ℕ

@@ -39,12 +39,12 @@ abbrev pub left : State → ℕ
 left st = cond st.going 1 0 + (st.to - st.from)
 
 -- a line leaves less
-after_Less
+after_less
     : (st : State) (s : List ℕ) (x : Line) (used : ℕ) → line_of s ≡ x → st.going ≡ true → st.from + length s ≡ st.to
     → left (state_after st x used) < left st
-after_Less st s (line.Message c n) used e g h = let w = message_size s c n e in rw g (omega (arith, w.0, w.1))
-after_Less st s (line.Refused x) used e g h = rw g (omega arith)
-after_Less st s line.End used e g h = rw g (omega arith)
+after_less st s (line.Message c n) used e g h = let w = message_size s c n e in rw g (omega (arith, w.0, w.1))
+after_less st s (line.Refused x) used e g h = rw g (omega arith)
+after_less st s line.End used e g h = rw g (omega arith)
 
 -- the bytes that are not listed yet are those from `from` to `to`
 pub unlisted_length : (buf out : List ℕ) (st : State) → Within buf out st → st.from + length (unlisted buf st) ≡ st.to
@@ -68,4 +68,4 @@ pub line_less
     → left r < left st
 line_less buf out st r w g e =
     let s = unlisted buf st in
-    rw e (after_Less st s (line_of s) r.used refl g (unlisted_length buf out st w))
+    rw e (after_less st s (line_of s) r.used refl g (unlisted_length buf out st w))

@@ -120,10 +120,10 @@ module _ (s : List ℕ) (m : Message) (xs : List ℕ) (ok : all_below 8 (field_o
       pub tlv_room : size_to m t + 3 + (field_of m t).len ≤ length xs
       tlv_room = omega (arith, size_there m t p, size_grows m 8 (t + 1) (omega arith))
 
-      pub Laid-next
+      pub laid_next
           : (ys zs : List ℕ) → ys ≡ splice 4 (body_to s m t) xs → zs ≡ splice (size_to m t) (tlv_bytes s t (field_of m t)) ys
           → zs ≡ splice 4 (body_to s m (t + 1)) xs
-      Laid-next ys zs a b =
+      laid_next ys zs a b =
           let l = body_length m s t (λ u b. ok_type u (omega arith)) in
           let w : Written true 4 (size_to m t) (body_to s m t) xs ys = record { all = a; end = l } in
           (next_part w (tlv_bytes s t (field_of m t)) (3 + (field_of m t).len) (tlv_length m s (field_of m t) tlv_within t) b (omega (arith, tlv_room))).all

@@ -10,7 +10,7 @@ use Rattle.message_rules.specs.declared.record.Field.{Field}
 use Rattle.message_rules.specs.Record.{size_to}
 use Rattle.message_writer.specs.Writing.{body_to}
 use Rattle.message_rules.proofs.Laws.Size.{size_there, size_none}
-use Rattle.message_writer.proofs.Laws.Writing.{body_none, laid_length, Laid-next, tlv_within, tlv_small, tlv_room}
+use Rattle.message_writer.proofs.Laws.Writing.{body_none, laid_length, laid_next, tlv_within, tlv_small, tlv_room}
 use Rattle.message_writer.proofs.put_tlvs.Goals.{then-value, else-value}
 use Rattle.message_writer.proofs.put_tlvs.Goals as goal
 
@@ -49,7 +49,7 @@ loop-kind-preserved c = let pre = c.requires in
           let e : l.at + 3 + f.result.len ≡ size_to a.message (l.kind + 1) = omega (arith, size_there a.message l.kind p, q, l.invariant.1) in (
             omega arith,
             w.at-is ∙ r.ensures.0 ∙ e,
-            Laid-next s a.message xs pre.0 pre.1 l.kind c.loop-kind-test.true p l.out _ l.invariant.2
+            laid_next s a.message xs pre.0 pre.1 l.kind c.loop-kind-test.true p l.out _ l.invariant.2
                 (w.out-is ∙ rw (l.invariant.1, f.ensures) at r.ensures.1),
           )
       | else-value w ↦
