@@ -1,22 +1,10 @@
 -- What is still to be written on the present bytes gives what was to be written on the first ones. Assumes nothing.
 use Prim.Native.Nat.{◌+◌, ◌*◌, ◌-◌}
-use mathlib.Core.Path.{◌≡◌, refl, sym, ap, ◌∙◌}
+use mathlib.Core.Path.{◌≡◌, sym, ◌∙◌}
 use native.Mathlib.Omega.{arith}
-use lib.ListN.{length}
-use Rattle.wire.proofs.Laws.Splice.{length_part, splice_none}
-use Rattle.wire.proofs.Laws.Laid.{length_laid}
-use Rattle.cursor_limits.specs.Writing.{spell_limits}
-use Rattle.cursor_limits.proofs.Laws.Writing.{length_limits, spell_fields, room_back, field_back, limits_written}
+use Rattle.wire.proofs.Laws.Splice.{splice_none}
+use Rattle.cursor_limits.proofs.Laws.Writing.{spell_fields, room_back, field_back, limits_written}
 use Rattle.cursor_limits.proofs.writing.write_limits.Goals as goal
-
-pub loop-i-init : goal.loop-i-init
-loop-i-init c = (omega arith, c.requires, refl)
-
-pub write_field-requires : goal.write_field-requires
-write_field-requires c =
-    let l = c.loop-i in
-    let five : 4 + 5 * l.i + 5 - (4 + 5 * l.i) ≡ 5 = omega arith in
-    rw five (length_part (4 + 5 * l.i) 5 l.out (omega arith))
 
 pub loop-i-preserved : goal.loop-i-preserved
 loop-i-preserved c =
@@ -34,8 +22,3 @@ returns c =
     let z : l.i ≡ 3 = omega arith in
     let fields = sym (splice_none 19 l.out) ∙ (rw z at l.invariant.2) in
     rw (c.copy.ensures, c.word_of-word.ensures, fields) (limits_written c.args.limits c.args.out.now c.requires)
-
-pub shape_of-out : goal.shape_of-out
-shape_of-out c =
-    let n = length_limits c.args.limits in
-    ap length (returns c) ∙ length_laid (spell_limits c.args.limits) c.args.out.now

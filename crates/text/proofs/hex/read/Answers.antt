@@ -8,7 +8,7 @@ use lib.ListN.{length}
 use Rattle.wire.specs.Below.{all_below}
 use Rattle.text.specs.Hex.{is_digit, number, read_digits}
 use Rattle.wire.proofs.Laws.Below.{one_below, below_next}
-use Rattle.text.proofs.Laws.Hex.{number_more, more_small, four_small}
+use Rattle.text.proofs.Laws.Hex.{number_more, more_small}
 use Rattle.text.proofs.hex.read.Goals as goal
 
 pub returns-then-bytes-gt4 : goal.returns-then-bytes-gt4
@@ -32,14 +32,6 @@ returns-then-value-ge16 c =
       le-leb (length s) 4 c.if-bytes-gt4.false,
       one_below (is_digit s) (length s) k c.loop-k-test.true (rw (sym d.ensures) (le-ltb d.result 16 c.if-value-ge16.true)),
     )
-
-pub overflow_mul-number : goal.overflow_mul-number
-overflow_mul-number c =
-    let l = c.loop-k in omega (arith, four_small l.k l.number (omega arith) l.invariant.3)
-
-pub overflow_add-number : goal.overflow_add-number
-overflow_add-number c =
-    let l = c.loop-k in omega (arith, four_small l.k l.number (omega arith) l.invariant.3)
 
 pub loop-k-preserved : goal.loop-k-preserved
 unfolding is_digit

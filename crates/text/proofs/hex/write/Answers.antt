@@ -1,16 +1,10 @@
 -- What is still to be written, the k digits of the rest, and the places already written are the digits of the number. Assumes nothing.
-use mathlib.Core.Path.{◌≡◌, refl, ◌∙◌}
-use mathlib.Core.List.{append-nil}
+use mathlib.Core.Path.{◌≡◌, ◌∙◌}
 use native.Mathlib.Omega.{arith}
 use lib.ListN.{length-set}
-use lib.Seq.{drop-length}
 use Rattle.text.specs.Hex.{spell_digits}
 use Rattle.text.proofs.Laws.Hex.{write_last}
 use Rattle.text.proofs.hex.write.Goals as goal
-
-pub loop-k-init : goal.loop-k-init
-loop-k-init c =
-    let out = c.args.out.now in (omega arith, refl, rw (drop-length out) (append-nil _))
 
 pub loop-k-preserved : goal.loop-k-preserved
 loop-k-preserved c =

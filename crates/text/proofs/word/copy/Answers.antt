@@ -1,6 +1,6 @@
 -- The first k places hold the word's bytes, the others what they held. Assumes nothing.
 use Prim.Native.Nat.{ℕ, suc, ◌+◌, ◌≤◌, ◌<◌}
-use mathlib.Core.Path.{◌≡◌, refl, sym, ◌∙◌}
+use mathlib.Core.Path.{◌≡◌, sym, ◌∙◌}
 use mathlib.Core.List.{List, ◌++◌}
 use native.Mathlib.Omega.{arith}
 use native.Mathlib.Numerals.{add-one}
@@ -27,9 +27,6 @@ done w xs ys k h l e =
 pub returns-then-out-word : goal.returns-then-out-word
 unfolding laid
 returns-then-out-word c = simp (lt-leb _ _ c.if-out-word.true)
-
-pub loop-k-init : goal.loop-k-init
-loop-k-init c = (omega arith, refl, refl)
 
 pub loop-k-preserved : goal.loop-k-preserved
 loop-k-preserved c =
