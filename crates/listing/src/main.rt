@@ -52,9 +52,9 @@ fn read_more<R: Read>(
     buf: &mut [u8],
     state: State,
 ) -> State
-    requires from_le_to { (state.from ≤ state.to) × (state.to ≤ length buf.old) }
-    requires to_bound { state.to < state.from + length buf.old }
-    ensures from_le_to_2 { (result.from ≤ result.to) × (result.to ≤ length buf.new) × (result.used ≡ state.used) × (result.place ≡ state.place) }
+    requires window { (state.from ≤ state.to) × (state.to ≤ length buf.old) }
+    requires room { state.to < state.from + length buf.old }
+    ensures window { (result.from ≤ result.to) × (result.to ≤ length buf.new) × (result.used ≡ state.used) × (result.place ≡ state.place) }
     ensures kept { take (state.to - state.from) (drop result.from buf.new) ≡ take (state.to - state.from) (drop state.from buf.old) }
 {
     let mut state = state;
@@ -149,7 +149,7 @@ fn unwritten(rt: &HostRuntime, error: io::Error) -> u8
 // Writes the lines that are there. Where that fails, the verdict is no longer what the lines say.
 fn write_lines(rt: &HostRuntime, out: &[u8], state: State) -> State
     requires { state.used ≤ length out.now }
-    ensures from_value { (result.from ≡ state.from) × (result.to ≡ state.to) × (result.used ≡ 0) }
+    ensures kept { (result.from ≡ state.from) × (result.to ≡ state.to) × (result.used ≡ 0) }
     ensures verdict { (result.verdict ≡ state.verdict) ⊎ (2 ≤ result.verdict) }
 {
     let mut state = state;
@@ -188,8 +188,8 @@ fn step<R: Read>(
 // Lists the recording, and answers the verdict. A proved loop has to end, and nothing says that a file does. So the loop counts its turns
 // down, from a number that no run uses up.
 fn list<R: Read>(rt: &HostRuntime, input: &mut R, path: &str, buf: &mut [u8], out: &mut [u8]) -> u8
-    requires in_bounds { 65536 ≤ length buf.old }
-    requires in_bounds_2 { 64 ≤ length out.old }
+    requires buffer { 65536 ≤ length buf.old }
+    requires output { 64 ≤ length out.old }
 {
     let mut state = State {
         from: 0,

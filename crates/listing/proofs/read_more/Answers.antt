@@ -6,7 +6,7 @@ use Rattle.listing.proofs.read_more.Goals as goal
 pub returns-in-Err : goal.returns-in-Err
 returns-in-Err g c =
     let m = c.move_to_front-kept.ensures in
-    record { from_le_to_2 = (omega arith, omega arith, refl, refl); kept = front_kept c.read.new.buf _ _ _ _ m.count (omega arith) m.bytes }
+    record { window = (omega arith, omega arith, refl, refl); kept = front_kept c.read.new.buf _ _ _ _ m.count (omega arith) m.bytes }
 
 pub returns-in-Ok : goal.returns-in-Ok
 returns-in-Ok g c =
@@ -15,6 +15,6 @@ returns-in-Ok g c =
     let more = c.in-Ok.ensures.bound.0 in
     let front : length (take n c.move_to_front-kept.new.buf) ≡ n = length-take-le _ _ (omega arith) in
     record {
-      from_le_to_2 = (omega arith, rw (length-append, length-append, front) (omega (arith, more)), refl, refl);
+      window = (omega arith, rw (length-append, length-append, front) (omega (arith, more)), refl, refl);
       kept = front_kept c.read.new.buf _ _ _ _ m.count (omega arith) m.bytes;
     }

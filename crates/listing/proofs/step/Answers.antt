@@ -8,4 +8,4 @@ pub read_more-requires : goal.read_more-requires
 read_more-requires g c =
     let w = c.show_lines-state.ensures.within in
     let e = c.show_lines-state.ensures.all (not-false _ c.if-not-state.false) (omega (arith, w.room)) in
-    record { from_le_to = (w.ordered, w.inside); to_bound = undecided_room _ _ c.show_lines-state.result w (λ i. omega (arith, c.slice_known-1.given i)) e }
+    record { window = (w.ordered, w.inside); room = undecided_room _ _ c.show_lines-state.result w (λ i. omega (arith, c.slice_known-1.given i)) e }
