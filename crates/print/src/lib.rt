@@ -65,11 +65,16 @@ fn without_number(words: &str) -> &str {
 
 // A line on standard error: what failed, a colon and the system's words for why.
 pub fn failed(rt: &HostRuntime, what: &str, error: Error) {
-    let Ok(words) = format!(in rt.alloc(); "{error}") else {
-        return;
-    };
-    let why = without_number(words.as_str());
-    rt.eprintln(format_args!("{what}: {why}")).ok();
+    match format!(in rt.alloc(); "{error}") {
+        Ok(words) => {
+            let why = without_number(words.as_str());
+            rt.eprintln(format_args!("{what}: {why}")).ok();
+        }
+        // There is no memory for the words: with the number, then.
+        Err(_) => {
+            rt.eprintln(format_args!("{what}: {error}")).ok();
+        }
+    }
 }
 
 // The argument of that number, as text, in the bytes that are lent. Where it can't be had, says so on standard error: `what`, and why.
