@@ -2,7 +2,7 @@
  * The calls of libashlarsilk.a from C: a message, a session, a cursor limits value, the pointer, a picture whose fragments come out of order, and
  * refusals. From the repository's root:
  *
- *   cc -std=c99 -Wall -Wextra -Werror -pedantic -I include -o example host/c-example/example.c target/staticlib/libashlarsilk.a
+ *   cc -std=c99 -Wall -Wextra -Werror -pedantic -I include -o example host/c-example/example.c crates/ashlarsilk/out/libashlarsilk.a
  */
 #include <ashlarsilk.h>
 

@@ -50,7 +50,7 @@ fn is_found(repository: &Repository, named: &[&Crate], span: &str) -> bool {
         [word] if word.contains('/') && is_plain(word) => {
             word.starts_with("target/") || repository.has_path(word)
         }
-        [word] if ENDS.iter().any(|end| word.ends_with(end)) => true,
+        [word] if is_lent(word) => true,
         [word] if is_dotted(word) => {
             let any: Vec<&Crate> = repository.crates.values().collect();
             let among = if named.is_empty() { &any[..] } else { named };
@@ -134,6 +134,12 @@ fn is_command(repository: &Repository, command: &str) -> bool {
         line.trim().split(')').next().unwrap_or("").split('|').any(|word| word.trim() == command)
     };
     launcher.lines().any(arm)
+}
+
+/// Whether a word is what a contract says of a lent value.
+fn is_lent(word: &str) -> bool {
+    let plain = |name: &str| !name.is_empty() && name.chars().all(|c| c.is_ascii_lowercase());
+    ENDS.iter().any(|end| word.strip_suffix(end).is_some_and(plain))
 }
 
 /// Whether a word is as `File` or `File.name` is written.

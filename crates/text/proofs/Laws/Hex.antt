@@ -38,6 +38,14 @@ number_more s n v d e f = rw add-one (omega arith)
 pub more_small : (n v d : ℕ) → v < 16 ^ n → d < 16 → v * 16 + d < 16 ^ (n + 1)
 more_small n v d h l = rw (pow-add 16 n 1) (omega arith)
 
+-- four digits fit in 16 bits
+pub four_small : (n v : ℕ) → n < 4 → v < 16 ^ n → v * 16 + 15 < 65536
+four_small zero v h l = omega arith
+four_small (suc zero) v h l = omega arith
+four_small (suc (suc zero)) v h l = omega arith
+four_small (suc (suc (suc zero))) v h l = omega arith
+four_small (suc (suc (suc (suc n)))) v h l = omega arith
+
 -- writing stores the last digit first
 pub write_last
     : (k v : ℕ) (xs : List ℕ) → 0 < k → k ≤ length xs
