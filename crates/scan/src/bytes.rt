@@ -54,7 +54,7 @@ pub fn fill(to: &mut [u8], value: u8)
     ensures { to.new ≡ replicate (length to.old) value }
 {
     let mut k = 0;
-    while k < to.len() {
+    'places: while k < to.len() {
         to[k] = value;
         k += 1;
     }
