@@ -13,6 +13,7 @@ ghost use Rattle.listing.specs.Text.{Put, text_of};
 
 use message_recording::cut::needed;
 use message_recording::line::{Line, first_line};
+use print::argument;
 use std::env::{Env, FillError};
 use std::io::{Eprint, ErrorKind, Print, Read, Write};
 use std::{fs, io};
@@ -230,10 +231,24 @@ fn list_file(rt: &HostRuntime, path: &str) -> u8 {
     }
 }
 
-// Writes the verdict to the file of that name, which it makes, or empties where it is there.
-fn tell(rt: &HostRuntime, path: &str, verdict: u8) -> io::Result<()> {
+// Writes the verdict to a file, which it makes, or empties where it is there.
+fn write_verdict(rt: &HostRuntime, path: &str, verdict: u8) -> io::Result<()> {
     let mut file = fs::create(rt, path)?;
     write!(file, "{verdict}")
+}
+
+// Writes the verdict to the file that the second argument names.
+fn tell(rt: &HostRuntime, verdict: u8) {
+    let mut bytes = [0u8; 4096];
+    let got = rt.arg(2, &mut bytes);
+    match argument::text(got, &bytes) {
+        Ok(path) => {
+            if let Err(error) = write_verdict(rt, path, verdict) {
+                print::failed(rt, path, error);
+            }
+        }
+        Err(error) => print::failed(rt, "path", error),
+    }
 }
 
 // Whether there is an argument of that number.
@@ -247,19 +262,15 @@ fn main(rt: HostRuntime) {
         rt.eprintln("usage: listing FILE [VERDICT]").ok();
         return;
     }
-    let mut path = [0u8; 4096];
-    let Some(path) = print::argument(&rt, 1, &mut path, "path") else {
-        return;
-    };
-    let verdict = list_file(&rt, path);
-    if !has_argument(&rt, 2) {
-        return;
-    }
-    let mut name = [0u8; 4096];
-    let Some(name) = print::argument(&rt, 2, &mut name, "path") else {
-        return;
-    };
-    if let Err(error) = tell(&rt, name, verdict) {
-        print::failed(&rt, name, error);
+    let mut bytes = [0u8; 4096];
+    let got = rt.arg(1, &mut bytes);
+    match argument::text(got, &bytes) {
+        Ok(path) => {
+            let verdict = list_file(&rt, path);
+            if has_argument(&rt, 2) {
+                tell(&rt, verdict);
+            }
+        }
+        Err(error) => print::failed(&rt, "path", error),
     }
 }

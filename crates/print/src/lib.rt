@@ -1,19 +1,13 @@
 // Text and numbers on standard output, and on standard error why something failed.
 #![tactic(auto)]
 
-use std::env::{Env, FillError};
+pub mod argument;
+
 use std::io::{Eprint, Error};
 use wire::signed;
 
 // Standard output.
 const STDOUT_FILENO: i32 = 1;
-
-// The numbers of the system's errors for an argument that is missing, is longer than a path may be, or is no text.
-const EINVAL: i32 = 22;
-
-const ENAMETOOLONG: i32 = 36;
-
-const EILSEQ: i32 = 84;
 
 pub fn text(bytes: &[u8]) {
     io::write_all(STDOUT_FILENO, bytes);
@@ -75,23 +69,4 @@ pub fn failed(rt: &HostRuntime, what: &str, error: Error) {
             rt.eprintln(format_args!("{what}: {error}")).ok();
         }
     }
-}
-
-// The argument of that number, as text, in the bytes that are lent. Where it can't be had, says so on standard error: `what`, and why.
-pub fn argument<'a>(
-    rt: &HostRuntime,
-    number: usize,
-    bytes: &'a mut [u8],
-    what: &str,
-) -> Option<&'a str> {
-    let why = match rt.arg(number, bytes) {
-        Ok(length) => match std::str::from_utf8(&bytes[..length]) {
-            Ok(text) => return Some(text),
-            Err(_) => EILSEQ,
-        },
-        Err(FillError::TooLong) => ENAMETOOLONG,
-        Err(FillError::NotPresent) => EINVAL,
-    };
-    failed(rt, what, Error::from_raw_os_error(why));
-    None
 }

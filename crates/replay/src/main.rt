@@ -7,6 +7,8 @@
 ghost use Rattle.std.specs.Prelude.{◌<◌, ◌≤◌};
 
 use cursor_layout::{picture_layout, pointer_layout};
+use print::argument;
+use std::env::Env;
 use std::fs;
 use std::io::Read;
 use wire::{number, signed};
@@ -145,14 +147,18 @@ fn replay<R: Read>(stream: &mut R) {
     play(stream, &mut pointer, &mut picture, &mut image, &mut marks);
 }
 
+fn replay_file(rt: &HostRuntime, path: &str) {
+    match fs::open(rt, path) {
+        Ok(mut stream) => replay(&mut stream),
+        Err(error) => print::failed(rt, path, error),
+    }
+}
+
 fn main(rt: HostRuntime) {
     let mut bytes = [0u8; 4096];
-    let Some(path) = print::argument(&rt, 1, &mut bytes, "replay: a stream's file name is needed")
-    else {
-        return;
-    };
-    match fs::open(&rt, path) {
-        Ok(mut stream) => replay(&mut stream),
-        Err(error) => print::failed(&rt, path, error),
+    let got = rt.arg(1, &mut bytes);
+    match argument::text(got, &bytes) {
+        Ok(path) => replay_file(&rt, path),
+        Err(error) => print::failed(&rt, "replay: a stream's file name is needed", error),
     }
 }
