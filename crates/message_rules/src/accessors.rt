@@ -13,6 +13,7 @@ pub struct SourceId {
 }
 
 // The RTSP port, or 0 where there is none.
+#[tactic(auto, unfolding(crate::specs::Accessors::port_of))]
 pub fn rtsp_port(bytes: &[u8], message: Message) -> u16
     ensures { result ≡ port_of bytes.now message }
 {
@@ -25,6 +26,7 @@ pub fn rtsp_port(bytes: &[u8], message: Message) -> u16
 }
 
 // The option byte, the first of the Security Options, or 0 where there are none.
+#[tactic(auto, unfolding(crate::specs::Accessors::options_of))]
 pub fn security_options(bytes: &[u8], message: Message) -> u8
     ensures { result ≡ options_of bytes.now message }
 {
@@ -42,27 +44,22 @@ fn sixteen(bytes: &[u8], at: usize) -> [u8; 16]
     ensures { result ≡ take 16 (drop at bytes.now) }
 {
     let mut id = [0u8; 16];
-    let mut k = 0;
-    while k < 16 {
-        id[k] = bytes[at + k];
-        k += 1;
-    }
+    id.copy_from_slice(&bytes[at..at + 16]);
     id
 }
 
 // The Source ID; where there is none, or its 16 bytes are not within the lent ones, it is not present.
+#[tactic(auto, unfolding(crate::specs::Accessors::source_of))]
 pub fn source_id(bytes: &[u8], message: Message) -> SourceId
     ensures { result ≡ source_of bytes.now message }
 {
     let source = message.source_id;
     let at = source.at as usize;
-    if source.present {
-        if at + 16 <= bytes.len() {
-            return SourceId {
-                present: true,
-                bytes: sixteen(bytes, at),
-            };
-        }
+    if source.present && at + 16 <= bytes.len() {
+        return SourceId {
+            present: true,
+            bytes: sixteen(bytes, at),
+        };
     }
     SourceId {
         present: false,

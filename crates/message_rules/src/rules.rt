@@ -5,13 +5,11 @@ ghost use Rattle.message_rules.specs.Rules.{role_of, length_in, length_ok, known
 use crate::role::Role;
 
 // Whether there is a message of this command.
+#[tactic(auto, unfolding(crate::specs::Rules::known_command))]
 pub fn known_command(command: u8) -> bool
     ensures { result ≡ known_command command }
 {
-    if command < 1 {
-        return false;
-    }
-    command <= 6
+    matches!(command, 1..=6)
 }
 
 // The role of a TLV type in a command. A type or a command that there is not is foreign. The types: 0 Friendly Name,
@@ -66,17 +64,12 @@ pub fn role(command: u8, kind: u8) -> Role
 }
 
 // Whether a length is one from `least` to `most`, and a multiple of `unit`.
+#[tactic(auto, unfolding(crate::specs::Rules::length_in))]
 fn within(len: usize, least: usize, most: usize, unit: usize) -> bool
     requires { 0 < unit }
     ensures { result ≡ length_in (least, most, unit) len }
 {
-    if len < least {
-        return false;
-    }
-    if most < len {
-        return false;
-    }
-    len % unit == 0
+    (least..=most).contains(&len) && len % unit == 0
 }
 
 // Whether a value of this type may have this length.
