@@ -1,11 +1,12 @@
 // What a host asks of a record, with the bytes that it was read from. Every record and all bytes are taken.
-ghost use Rattle.std.specs.Prelude.{◌≡◌, ◌+◌, ◌≤◌, length, take, drop};
+ghost use Rattle.std.specs.Prelude.{◌≡◌};
 ghost use Rattle.message_rules.specs.Accessors.{port_of, options_of, source_of};
 
 use crate::record::Message;
 use wire::number::{u8_at, u16_at};
 
-// A Source ID, if there is one; if not, its bytes are 0.
+// A Source ID, if there is one; if not, its bytes are 0. It is no Option: a session's record with flag 0 keeps the 16 bytes that a host
+// lent (`session_bytes` of crate session_layout).
 #[derive(Clone, Copy)]
 pub struct SourceId {
     pub present: bool,
@@ -25,7 +26,8 @@ pub fn rtsp_port(bytes: &[u8], message: Message) -> u16
     }
 }
 
-// The option byte, the first of the Security Options, or 0 where there are none.
+// The option byte, the first of the Security Options, or 0 where there are none. One function for this and the port would take the field, the
+// reader of its number and the type as arguments, and be no shorter.
 #[tactic(auto, unfolding(crate::specs::Accessors::options_of))]
 pub fn security_options(bytes: &[u8], message: Message) -> u8
     ensures { result ≡ options_of bytes.now message }
@@ -38,16 +40,6 @@ pub fn security_options(bytes: &[u8], message: Message) -> u8
     }
 }
 
-// The 16 bytes from `at`.
-fn sixteen(bytes: &[u8], at: usize) -> [u8; 16]
-    requires { at + 16 ≤ length bytes.now }
-    ensures { result ≡ take 16 (drop at bytes.now) }
-{
-    let mut id = [0u8; 16];
-    id.copy_from_slice(&bytes[at..at + 16]);
-    id
-}
-
 // The Source ID; where there is none, or its 16 bytes are not within the lent ones, it is not present.
 #[tactic(auto, unfolding(crate::specs::Accessors::source_of))]
 pub fn source_id(bytes: &[u8], message: Message) -> SourceId
@@ -56,9 +48,11 @@ pub fn source_id(bytes: &[u8], message: Message) -> SourceId
     let source = message.source_id;
     let at = source.at as usize;
     if source.present && at + 16 <= bytes.len() {
+        let mut id = [0u8; 16];
+        id.copy_from_slice(&bytes[at..at + 16]);
         return SourceId {
             present: true,
-            bytes: sixteen(bytes, at),
+            bytes: id,
         };
     }
     SourceId {

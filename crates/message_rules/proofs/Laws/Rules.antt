@@ -1,17 +1,15 @@
 -- Laws of the two tables: each is a fact of every row. Assumes nothing.
 use Prim.Native.Nat.{ℕ, zero, suc, ◌%◌, ◌≤◌, ◌<◌}
-use mathlib.Core.Path.{◌≡◌, refl, sym, ap, ◌∙◌}
+use mathlib.Core.Path.{◌≡◌, refl, ap, ◌∙◌}
 use mathlib.Core.List.{List}
-use mathlib.Core.Bool.{true, ◌&&◌, ◌||◌}
+use mathlib.Core.Bool.{true, ◌&&◌}
 use native.Mathlib.Omega.{arith}
 use native.Mathlib.Decide.{dec_lt}
-use borrow.Author.Tests.{leb-true, eqb-true, ne_eqb}
+use borrow.Author.Tests.{leb-true}
 use lib.Dec.{leb, eqb}
 use lib.ListN.{length, get_or, get_or-eq_default}
 use Rattle.message_rules.specs.declared.role.Role.{Role}
 use Rattle.message_rules.specs.Rules.{foreign, no_roles, roles_of, role_of, lengths_of, length_in, length_ok}
-use Rattle.wire.specs.Below.{all_below}
-use Rattle.wire.proofs.Laws.Below.{below_all}
 use Rattle.wire.proofs.Laws.Bool.{both}
 
 -- what holds of each column of the tables
