@@ -11,13 +11,12 @@ use Rattle.message_rules.specs.declared.record.Field.{Field}
 use Rattle.message_rules.specs.declared.record.Message.{Message}
 use Rattle.message_reader.specs.declared.Answer.{Answer}
 use Rattle.message_reader.specs.declared.Answer.TheVariants as answer
-use Rattle.message_rules.specs.Rules.{needed, roles_of, role_of, lengths_of, length_in, length_ok, known_command}
+use Rattle.message_rules.specs.Rules.{foreign, needed, optional, roles_of, role_of, lengths_of, length_in, length_ok, known_command}
 use Rattle.wire.specs.Below.{all_below}
 use Rattle.message_rules.specs.Record.{absent, field_of, with_field, empty_of, tlv_size, size_to}
 use Rattle.message_reader.specs.Reading.{header_status, type_at, length_at, tlv_at, has_needed, is_complete, last_of}
 use Rattle.message_reader.specs.Reading.{tlvs_from, read_message, numbered}
-use Rattle.message_rules.proofs.Laws.Rules.{each_type, type_small}
-use Rattle.wire.proofs.Laws.Bool.{impossible}
+use Rattle.message_rules.proofs.Laws.Rules.{same_role_false, needed_own, each_type, type_small}
 use Rattle.message_reader.specs.Theorems.{Refusal, Acceptance}
 use Rattle.message_reader.specs.Theorems as given
 use Rattle.message_rules.specs.Accessors.{port_of}
@@ -128,7 +127,7 @@ pub empty_token : Met (0 ∷ 7 ∷ 1 ∷ 3 ∷ 4 ∷ 0 ∷ 0 ∷ []) status.TlvL
 unfolding number_in roles_of role_of lengths_of length_in length_ok known_command field_of with_field empty_of first_of header_status tlv_at tlvs_from read_message
 empty_token = (
   given.tlv (record { four = omega arith; size = refl; version = refl; command = refl })
-      given.start (omega arith) (given.length_wrong (omega arith) (λ e. omega arith) refl),
+      given.start (omega arith) (given.length_wrong (omega arith) (needed_own needed refl) refl),
   refl,
   refl,
 )
@@ -138,8 +137,8 @@ pub two_tokens : Met (0 ∷ 12 ∷ 1 ∷ 3 ∷ 4 ∷ 0 ∷ 1 ∷ 9 ∷ 4 ∷ 0 �
 unfolding number_in roles_of role_of lengths_of length_in length_ok known_command field_of with_field empty_of first_of header_status tlv_at tlvs_from read_message
 two_tokens = (
   given.tlv (record { four = omega arith; size = refl; version = refl; command = refl })
-      (given.next given.start (record { whole = omega arith; expected = λ e. omega arith; fitting = refl; first = refl }))
-      (omega arith) (given.repeated (omega arith) (λ e. omega arith) refl refl),
+      (given.next given.start (record { whole = omega arith; expected = needed_own needed refl; fitting = refl; first = refl }))
+      (omega arith) (given.repeated (omega arith) (needed_own needed refl) refl refl),
   refl,
   refl,
 )
@@ -175,11 +174,14 @@ abbrev pub handshake_record : Message
 handshake_record = record_of 3 absent absent (there 7 1)
 
 -- its token is all that it needs
+foreign_not_needed : {A : Type 0} → foreign ≡ needed → A
+foreign_not_needed e = absurd (same_role_false foreign needed refl e)
+
 pub complete : (t : ℕ) → role_of 3 t ≡ needed → (field_of handshake_record t).present ≡ true
 unfolding roles_of role_of field_of
 complete t e =
-    each_type (λ u. role_of 3 u ≡ needed → (field_of handshake_record u).present ≡ true) impossible impossible impossible
-    (λ f. absurd (let no : ⊥ = omega arith in no)) (λ f. refl) impossible impossible impossible t (type_small 3 t (λ f. omega arith)) e
+    each_type (λ u. role_of 3 u ≡ needed → (field_of handshake_record u).present ≡ true) foreign_not_needed foreign_not_needed foreign_not_needed
+    (λ f. absurd (same_role_false optional needed refl f)) (λ f. refl) foreign_not_needed foreign_not_needed foreign_not_needed t (type_small 3 t (needed_own (role_of 3 t) e)) e
 
 -- AcceptedExactly: it is right, and is accepted with that record
 -- ZeroExactly: so its number is 0
@@ -191,7 +193,7 @@ unfolding number_in roles_of role_of lengths_of length_in length_ok known_comman
 handshake_accepted = (
   record {
     headed = record { four = omega arith; size = refl; version = refl; command = refl };
-    reached = given.next given.start (record { whole = omega arith; expected = λ e. omega arith; fitting = refl; first = refl });
+    reached = given.next given.start (record { whole = omega arith; expected = needed_own needed refl; fitting = refl; first = refl });
     complete = complete;
   },
   refl,

@@ -9,7 +9,7 @@ use Rattle.wire.specs.declared.status.Status.{Status}
 use Rattle.wire.specs.declared.status.Status.TheVariants as status
 use Rattle.message_rules.specs.declared.record.Field.{Field}
 use Rattle.message_rules.specs.declared.record.Message.{Message}
-use Rattle.message_rules.specs.Rules.{role_of, foreign, needed, length_ok, known_command}
+use Rattle.message_rules.specs.Rules.{role_of, foreign, needed, same_role, length_ok, known_command}
 use Rattle.message_rules.specs.Record.{field_of, with_field, empty_of}
 use Rattle.message_reader.specs.declared.Answer.{Answer}
 use Rattle.message_reader.specs.declared.Answer.TheVariants as answer
@@ -71,7 +71,7 @@ abbrev pub tlv_checks : List ℕ → ℕ → Message → List Check
 tlv_checks s at m =
     refuse status.TlvTruncated (ltb (length s) (at + 3))
     ∷ (refuse status.TlvTruncated (ltb (length s) (next_at s at))
-    ∷ (refuse status.TlvUnexpected (eqb (role_of m.command (type_at s at)) foreign)
+    ∷ (refuse status.TlvUnexpected (same_role (role_of m.command (type_at s at)) foreign)
     ∷ (refuse status.TlvLength (not (length_ok (type_at s at) (length_at s at)))
     ∷ (refuse status.TlvRepeated (field_of m (type_at s at)).present
     ∷ []))))
@@ -85,7 +85,7 @@ tlv_at s at m =
 
 -- if the command needs type t, it is there
 unfoldable pub has_needed : Message → ℕ → Bool
-has_needed m t = cond (eqb (role_of m.command t) needed) (field_of m t).present true
+has_needed m t = cond (same_role (role_of m.command t) needed) (field_of m t).present true
 
 -- no TLV is missing
 unfoldable pub is_complete : Message → Bool

@@ -4,6 +4,7 @@ ghost use Rattle.message_reader.specs.Reading.{tlv_at};
 ghost use Rattle.message_reader.specs.Values.{message_from};
 
 use crate::walk::Values;
+use message_rules::role::Role;
 use message_rules::rules;
 use wire::number::u16_at;
 use wire::status::Status;
@@ -33,7 +34,7 @@ pub(crate) fn tlv_at(bytes: &[u8], at: usize, command: u8, values: &Values) -> T
             status: Status::TlvTruncated,
         };
     }
-    if rules::role(command, kind) == rules::FOREIGN {
+    if rules::role(command, kind) == Role::Foreign {
         return Tlv::Refused {
             status: Status::TlvUnexpected,
         };

@@ -9,6 +9,7 @@ ghost use Rattle.message_reader.specs.Values.{none, field_from, message_from, va
 use crate::tlv::Tlv;
 use crate::{header, tlv};
 use message_rules::record::{Field, Message};
+use message_rules::role::Role;
 use message_rules::rules;
 use wire::number::u8_at;
 use wire::status;
@@ -35,22 +36,17 @@ fn has_needed(command: u8, kind: u8, values: &Values) -> bool
     requires { kind < 8 }
     ensures { result ≡ has_needed (message_from command values.now) kind }
 {
-    if rules::role(command, kind) != rules::NEEDED {
-        return true;
-    }
-    values[kind as usize] != 0
+    rules::role(command, kind) != Role::Needed || values[kind as usize] != 0
 }
 
 // Whether no TLV that the command needs is missing.
 fn is_complete(command: u8, values: &Values) -> bool
     ensures { result ≡ is_complete (message_from command values.now) }
 {
-    let mut kind: u8 = 0;
-    while kind < 8 {
+    for kind in 0..8 {
         if !has_needed(command, kind, values) {
             return false;
         }
-        kind += 1;
     }
     true
 }
@@ -62,6 +58,7 @@ fn walk(bytes: &[u8], command: u8, values: &mut Values) -> u64
     ensures values { values.new ≡ values_after (tlvs_from (length bytes.now) bytes.now 4 (empty_of command)) }
 {
     let mut at = 4;
+    // A turn goes on by as many bytes as the TLV has, which no iterator counts.
     while at < bytes.len() {
         match tlv::tlv_at(bytes, at, command, values) {
             Tlv::Right { kind, len } => {

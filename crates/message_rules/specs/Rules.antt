@@ -1,5 +1,7 @@
 -- Which TLVs a command has, and how long each may be: one table each, for reader, writer and definitions alike. Assumes nothing.
 use Rattle.std.specs.Prelude.{ℕ, ◌%◌, List, [], ◌∷◌, Bool, ◌&&◌, get_or, leb, eqb}
+use denote.Enum.Bare.{sameb}
+use Rattle.message_rules.specs.contracts.role.Role.{the_type}
 use Rattle.message_rules.specs.declared.role.Role.{Role}
 use Rattle.message_rules.specs.declared.role.Role.TheVariants as role
 
@@ -12,6 +14,10 @@ needed = role.Needed
 
 abbrev pub optional : Role
 optional = role.Optional
+
+-- `==` on roles
+abbrev pub same_role : Role → Role → Bool
+same_role = sameb the_type
 
 -- The roles of the types in no command.
 abbrev pub no_roles : List Role

@@ -5,7 +5,7 @@ use mathlib.Core.List.{List}
 use mathlib.Core.Bool.{true, false, cond}
 use mathlib.Core.Logic.{◌⊎◌, inl, inr, ⊎_elim}
 use native.Mathlib.Omega.{arith}
-use borrow.Author.Tests.{ltb-true, ltb-false, lt-ltb, le-ltb, eqb-true, eqb-false, eq-eqb, ne_eqb, not-true, not-false}
+use borrow.Author.Tests.{ltb-true, ltb-false, lt-ltb, le-ltb, eqb-true, eqb-false, ne_eqb, not-true, not-false}
 use lib.Dec.{ltb, eqb}
 use lib.ListN.{length, get_or}
 use Rattle.wire.specs.Checks.{first_of, accepted}
@@ -19,7 +19,7 @@ use Rattle.message_reader.specs.declared.Answer.{Answer}
 use Rattle.message_reader.specs.declared.Answer.TheVariants as answer
 use Rattle.message_reader.specs.declared.tlv.Tlv.{Tlv}
 use Rattle.message_reader.specs.declared.tlv.Tlv.TheVariants as tlv
-use Rattle.message_rules.specs.Rules.{role_of, foreign, needed, length_ok, known_command}
+use Rattle.message_rules.specs.Rules.{role_of, foreign, needed, same_role, length_ok, known_command}
 use Rattle.message_rules.specs.Record.{field_of, with_field, empty_of}
 use Rattle.message_reader.specs.Reading.{size_in, version_in, command_in, header_status, type_at, length_at, next_at, value_at, tlv_checks, tlv_at}
 use Rattle.message_reader.specs.Reading.{has_needed, is_complete, last_of, go_on, tlvs_from, read_message, numbered}
@@ -29,7 +29,7 @@ use Rattle.wire.proofs.Laws.Bool.{by_test, not_both}
 use Rattle.wire.proofs.Laws.Checks.{by_check, by_last_check}
 use Rattle.wire.proofs.Laws.Number.{number_small}
 use Rattle.wire.proofs.Laws.Status.{same_status}
-use Rattle.message_rules.proofs.Laws.Rules.{type_small}
+use Rattle.message_rules.proofs.Laws.Rules.{same_role_true, same_role_false, true_same_role, false_same_role, needed_own, type_small}
 use Rattle.wire.proofs.Laws.Below.{below_all, all_below_lem, one_below, one_fails}
 
 -- ---- one TLV
@@ -52,9 +52,9 @@ at_tlv s at m =
     by_check P status.TlvTruncated _ _ (λ e. given.truncated (inr (ltb-true (length s) (next_at s at) e)))
     (λ b.
     let whole = ltb-false (length s) (next_at s at) b in
-    by_check P status.TlvUnexpected _ _ (λ e. given.unexpected whole (eqb-true (role_of m.command t) foreign e))
+    by_check P status.TlvUnexpected _ _ (λ e. given.unexpected whole (same_role_true (role_of m.command t) foreign e))
     (λ d.
-    let own = eqb-false (role_of m.command t) foreign d in
+    let own = same_role_false (role_of m.command t) foreign d in
     by_check P status.TlvLength _ _ (λ e. given.length_wrong whole own (not-true (length_ok t (length_at s at)) e))
     (λ l.
     let fits = not-false (length_ok t (length_at s at)) l in
@@ -71,7 +71,7 @@ tlv_taken s at m k =
     simp (
       le-ltb (length s) (at + 3) (omega (arith, k.whole)),
       le-ltb (length s) (next_at s at) k.whole,
-      ne_eqb (role_of m.command (type_at s at)) foreign k.expected,
+      false_same_role (role_of m.command (type_at s at)) foreign k.expected,
       k.fitting,
       k.first,
     )
@@ -88,14 +88,14 @@ tlv_refused s at m st (given.length_wrong w r l) =
     simp (
       le-ltb (length s) (at + 3) (omega (arith, w)),
       le-ltb (length s) (next_at s at) w,
-      ne_eqb (role_of m.command (type_at s at)) foreign r,
+      false_same_role (role_of m.command (type_at s at)) foreign r,
       l,
     )
 tlv_refused s at m st (given.repeated w r l f) =
     simp (
       le-ltb (length s) (at + 3) (omega (arith, w)),
       le-ltb (length s) (next_at s at) w,
-      ne_eqb (role_of m.command (type_at s at)) foreign r,
+      false_same_role (role_of m.command (type_at s at)) foreign r,
       l,
       f,
     )
@@ -137,13 +137,13 @@ OfAnswer s (answer.Accepted m) = Acceptance s m
 OfAnswer s (answer.Refused st place) = Refusal s st place
 
 role_needed : (c t : ℕ) → role_of c t ≡ needed → t < 8
-role_needed c t e = type_small c t (λ f. omega arith)
+role_needed c t e = type_small c t (needed_own (role_of c t) e)
 
 has_none : (m : Message) (t : ℕ) → has_needed m t ≡ false → (role_of m.command t ≡ needed) × ((field_of m t).present ≡ false)
 unfolding has_needed
 has_none m t =
-    by_test (λ b. b ≡ false → (role_of m.command t ≡ needed) × ((field_of m t).present ≡ false)) (eqb (role_of m.command t) needed) _ _
-    (λ e f. (eqb-true (role_of m.command t) needed e, f))
+    by_test (λ b. b ≡ false → (role_of m.command t ≡ needed) × ((field_of m t).present ≡ false)) (same_role (role_of m.command t) needed) _ _
+    (λ e f. (same_role_true (role_of m.command t) needed e, f))
     (λ e f. not_both true refl f)
 
 lacks : (m : Message) (t : ℕ) → role_of m.command t ≡ needed → (field_of m t).present ≡ false → has_needed m t ≡ false
@@ -152,12 +152,12 @@ lacks m t n g = simp (n, g)
 
 has_needed_lem : (m : Message) (t : ℕ) → has_needed m t ≡ true → role_of m.command t ≡ needed → (field_of m t).present ≡ true
 unfolding has_needed
-has_needed_lem m t h e = simp (eq-eqb (role_of m.command t) needed e) at h
+has_needed_lem m t h e = simp (true_same_role (role_of m.command t) needed e) at h
 
 needed_has : (m : Message) (t : ℕ) → (role_of m.command t ≡ needed → (field_of m t).present ≡ true) → has_needed m t ≡ true
 unfolding has_needed
 needed_has m t f =
-    by_test (λ b. b ≡ true) (eqb (role_of m.command t) needed) _ _ (λ e. f (eqb-true (role_of m.command t) needed e)) (λ e. refl)
+    by_test (λ b. b ≡ true) (same_role (role_of m.command t) needed) _ _ (λ e. f (same_role_true (role_of m.command t) needed e)) (λ e. refl)
 
 of_last : (s : List ℕ) (m : Message) → Headed s → Reached s (length s) m → OfAnswer s (last_of (length s) m)
 unfolding last_of is_complete

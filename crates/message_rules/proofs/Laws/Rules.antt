@@ -1,16 +1,35 @@
 -- Laws of the two tables: each is a fact of every row. Assumes nothing.
 use Prim.Native.Nat.{ℕ, zero, suc, ◌%◌, ◌≤◌, ◌<◌}
-use mathlib.Core.Path.{◌≡◌, refl, ap, ◌∙◌}
+use mathlib.Core.Path.{◌≡◌, refl, sym, ap, ◌∙◌}
 use mathlib.Core.List.{List}
-use mathlib.Core.Bool.{true, ◌&&◌}
+use mathlib.Core.Bool.{true, false, ◌&&◌}
 use native.Mathlib.Omega.{arith}
 use native.Mathlib.Decide.{dec_lt}
 use borrow.Author.Tests.{leb-true}
 use lib.Dec.{leb, eqb}
 use lib.ListN.{length, get_or, get_or-eq_default}
+use denote.Enum.Bare.{same_true, same_false, true_same, false_same}
+use Rattle.message_rules.specs.contracts.role.Role.{the_type}
 use Rattle.message_rules.specs.declared.role.Role.{Role}
-use Rattle.message_rules.specs.Rules.{foreign, no_roles, roles_of, role_of, lengths_of, length_in, length_ok}
+use Rattle.message_rules.specs.Rules.{foreign, needed, same_role, no_roles, roles_of, role_of, lengths_of, length_in, length_ok}
 use Rattle.wire.proofs.Laws.Bool.{both}
+
+-- `==` on roles tells whether two roles are one
+pub same_role_true : (a b : Role) → same_role a b ≡ true → a ≡ b
+same_role_true a b = same_true the_type tt a b
+
+pub same_role_false : (a b : Role) → same_role a b ≡ false → a ≡ b → ⊥
+same_role_false a b = same_false the_type a b
+
+pub true_same_role : (a b : Role) → a ≡ b → same_role a b ≡ true
+true_same_role a b = true_same the_type a b
+
+pub false_same_role : (a b : Role) → (a ≡ b → ⊥) → same_role a b ≡ false
+false_same_role a b = false_same the_type tt a b
+
+-- a needed type is not foreign
+pub needed_own : (r : Role) → r ≡ needed → r ≡ foreign → ⊥
+needed_own r e f = same_role_false needed foreign refl (sym e ∙ f)
 
 -- what holds of each column of the tables
 pub each_type
