@@ -7,4 +7,3 @@ mod order;
 pub mod sequence;
 pub mod signed;
 pub mod status;
-pub mod written;
