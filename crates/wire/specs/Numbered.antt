@@ -2,7 +2,7 @@
 -- each of its cases. The promises use that definition."), for each of them at once. Assumes nothing.
 use Rattle.std.specs.Prelude.{ℕ, Result, Ok, Err}
 use Rattle.wire.specs.declared.status.Refused.{Refused}
-use Rattle.wire.specs.Status.{Status, refusal_number}
+use Rattle.wire.specs.Status.{refusal_number}
 
 -- the number, 0 where the answer accepts, and the place of a refusal
 pub record Numbered : Type 0 where

@@ -1,5 +1,5 @@
 -- The paper's number of each refusal and status (01, "Refusal numbers"). Assumes nothing.
-use Rattle.std.specs.Prelude.{ℕ, Bool, true, false, List, [], ◌∷◌, slice_index_or, Result, Ok, Err, ⊤}
+use Rattle.std.specs.Prelude.{ℕ, Bool, true, false, List, [], ◌∷◌, slice_index_or, Result, Ok, Err}
 use Rattle.wire.specs.declared.status.Refusal.{Refusal}
 use Rattle.wire.specs.declared.status.Refusal.TheVariants as refusal
 use Rattle.wire.specs.declared.status.Refused.{Refused}

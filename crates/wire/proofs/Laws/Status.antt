@@ -1,5 +1,5 @@
 -- Statuses and their numbers. Assumes nothing.
-use Rattle.std.proofs.Common.{◌≡◌, ℕ, ◌≤◌, ◌<◌, sym, refl, ap, ◌∙◌, arith}
+use Rattle.std.proofs.Common.{◌≡◌, ◌≤◌, ◌<◌, sym, refl, ap, ◌∙◌, arith}
 use Rattle.std.specs.Prelude.{Ok, Err}
 use Rattle.wire.specs.declared.status.Refusal.{Refusal}
 use Rattle.wire.specs.declared.status.Refusal.TheVariants as refusal
