@@ -1,7 +1,7 @@
 -- Where a test finds too few bytes the definition gives 0, else what the bytes have. Assumes nothing.
 use Rattle.std.proofs.Common.{sym, ◌∙◌, arith}
 use Rattle.wire.proofs.Laws.Layout.{there, missing}
-use Rattle.wire.proofs.little_endian.read.Goals as goal
+use Rattle.wire.proofs.little_endian.read_bytes.Goals as goal
 
 pub returns-then-s-n : goal.returns-then-s-n
 returns-then-s-n c = let a = c.args in
