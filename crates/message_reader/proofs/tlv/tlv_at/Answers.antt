@@ -7,11 +7,11 @@ use native.Mathlib.Omega.{arith}
 use Rattle.message_rules.specs.declared.role.Role.{Role}
 use Rattle.message_rules.specs.Rules.{role_of, foreign, same_role, length_ok}
 use Rattle.message_rules.proofs.Laws.Rules.{same_role_true, same_role_false, type_small, type_not_1}
-use Rattle.message_reader.specs.declared.tlv.Tlv.TheVariants as tlv
+use Rattle.std.specs.Prelude.{Ok}
 use Rattle.message_reader.specs.Reading.{type_at}
 use Rattle.message_reader.specs.Theorems as given
 use Rattle.message_reader.specs.Values.{message_from}
-use Rattle.message_reader.proofs.Laws.Reading.{tlv_taken, tlv_refused}
+use Rattle.message_reader.proofs.Laws.Reading.{tlv_of, tlv_taken, tlv_refused}
 use Rattle.message_reader.proofs.Laws.Values.{found_there, found_absent}
 use Rattle.message_reader.proofs.tlv.tlv_at.Goals as goal
 
@@ -23,22 +23,22 @@ pub returns-then-bytes-start : goal.returns-then-bytes-start
 returns-then-bytes-start c = sym (tlv_refused _ _ _ _ (given.truncated (inl (omega arith))))
 
 pub returns-then-bytes-start-2 : goal.returns-then-bytes-start-2
-returns-then-bytes-start-2 c = sym (tlv_refused _ _ _ _ (given.truncated (inr (omega (arith, c.u16_at-len.ensures)))))
+returns-then-bytes-start-2 c = sym (tlv_refused _ _ _ _ (given.truncated (inr (omega (arith, c.read-len.ensures)))))
 
 pub returns-then-eq : goal.returns-then-eq
 unfolding message_from
-returns-then-eq c = sym (tlv_refused _ _ _ _ (given.unexpected (omega (arith, c.u16_at-len.ensures)) (sym c.role.ensures ∙ same_role_true _ _ (sym c.if-eq.ensures))))
+returns-then-eq c = sym (tlv_refused _ _ _ _ (given.unexpected (omega (arith, c.read-len.ensures)) (sym c.role.ensures ∙ same_role_true _ _ (sym c.if-eq.ensures))))
 
 pub returns-then-not-length_ok : goal.returns-then-not-length_ok
 unfolding message_from
-returns-then-not-length_ok c = let u = c.u16_at-len in
+returns-then-not-length_ok c = let u = c.read-len in
     sym (tlv_refused _ _ _ _ (given.length_wrong (omega (arith, u.ensures)) (own _ _ _ c.role.ensures (sym c.if-eq.ensures))
     (ap (length_ok _) (sym u.ensures) ∙ sym c.length_ok.ensures ∙ c.if-not-length_ok.true)))
 
 pub returns-then-values-kind-ne0 : goal.returns-then-values-kind-ne0
 unfolding message_from
 returns-then-values-kind-ne0 c = let a = c.args in
-    let u = c.u16_at-len in
+    let u = c.read-len in
     let o = own a.command (type_at a.bytes.now a.at) _ c.role.ensures (sym c.if-eq.ensures) in
     sym (tlv_refused _ _ _ _ (given.repeated (omega (arith, u.ensures)) o
     (ap (length_ok _) (sym u.ensures) ∙ sym c.length_ok.ensures ∙ c.if-not-length_ok.false)
@@ -46,10 +46,10 @@ returns-then-values-kind-ne0 c = let a = c.args in
 
 pub returns : goal.returns
 unfolding message_from
-returns c = let u = c.u16_at-len in
+returns c = let u = c.read-len in
     let a = c.args in
     let o = own a.command (type_at a.bytes.now a.at) _ c.role.ensures (sym c.if-eq.ensures) in
-    ap (tlv.Right (type_at a.bytes.now a.at)) u.ensures
+    ap (λ (n : ℕ). Ok (tlv_of (type_at a.bytes.now a.at) n)) u.ensures
     ∙ sym (tlv_taken _ _ _ (record {
       whole = omega (arith, u.ensures);
       expected = o;
