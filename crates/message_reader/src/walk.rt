@@ -30,6 +30,7 @@ fn refuse(values: &mut Values, refusal: Refusal, place: usize) -> Refused
 }
 
 // Whether a type that the command needs is there.
+#[tactic(auto, using(crate::proofs::Laws::Values::needed_found))]
 fn has_needed(command: u8, kind: u8, values: &Values) -> bool
     requires { kind < 8 }
     ensures { result ≡ has_needed (message_from command values.now) kind }
@@ -99,24 +100,18 @@ fn field_from(value: u64) -> Field
 }
 
 // The record of a command with these values.
+#[tactic(auto, unfolding(crate::specs::Values::message_from))]
 pub fn message_from(command: u8, values: &Values) -> Message
     ensures { result ≡ message_from command values.now }
 {
-    let friendly_name = field_from(values[0]);
-    let rtsp_port = field_from(values[2]);
-    let source_id = field_from(values[3]);
-    let security_token = field_from(values[4]);
-    let security_options = field_from(values[5]);
-    let pin_challenge = field_from(values[6]);
-    let pin_reason = field_from(values[7]);
     Message {
         command,
-        friendly_name,
-        rtsp_port,
-        source_id,
-        security_token,
-        security_options,
-        pin_challenge,
-        pin_reason,
+        friendly_name: field_from(values[0]),
+        rtsp_port: field_from(values[2]),
+        source_id: field_from(values[3]),
+        security_token: field_from(values[4]),
+        security_options: field_from(values[5]),
+        pin_challenge: field_from(values[6]),
+        pin_reason: field_from(values[7]),
     }
 }
