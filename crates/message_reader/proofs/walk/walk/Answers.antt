@@ -29,11 +29,8 @@ returns c = let w = walked_missing c.loop-at.invariant c.loop-at-test.false (sym
     let r = c.refuse-2.ensures in
     record { answer = ap Err r.answer ∙ ap command_of w; values = r.values ∙ ap values_after w }
 
-pub overflow_mul-values : goal.overflow_mul-values
-overflow_mul-values c = omega (arith, (walked_fits c.loop-at.invariant c.loop-at-test.true _ _ (sym c.tlv_at.ensures ∙ c.in-Ok.is)).whole, c.loop-at.invariant.short)
-
-pub overflow_add-values-in-Ok : goal.overflow_add-values-in-Ok
-overflow_add-values-in-Ok c = omega (arith, (walked_fits c.loop-at.invariant c.loop-at-test.true _ _ (sym c.tlv_at.ensures ∙ c.in-Ok.is)).whole, c.loop-at.invariant.short)
+pub overflow_cast-values-in-Ok : goal.overflow_cast-values-in-Ok
+overflow_cast-values-in-Ok c = omega (arith, (walked_fits c.loop-at.invariant c.loop-at-test.true _ _ (sym c.tlv_at.ensures ∙ c.in-Ok.is)).whole, c.loop-at.invariant.short)
 
 pub bounds-values-kind : goal.bounds-values-kind
 bounds-values-kind c = omega (arith, (walked_fits c.loop-at.invariant c.loop-at-test.true _ _ (sym c.tlv_at.ensures ∙ c.in-Ok.is)).small, c.loop-at.invariant.eight.eight)
