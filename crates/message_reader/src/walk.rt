@@ -55,6 +55,7 @@ fn is_complete(command: u8, values: &Values) -> bool
 }
 
 // The TLVs after the header, from left to right, and last whether one is missing. No value is noted yet; the answer is the command.
+#[tactic(auto, using(crate::proofs::Laws::Walk::turn))]
 fn walk(bytes: &[u8], command: u8, values: &mut Values) -> Result<u8, Refused>
     requires { (length bytes.now ≤ 65535) × (values.old ≡ none) }
     ensures answer { result ≡ command_of (tlvs_from (length bytes.now) bytes.now 4 (empty_of command)) }
