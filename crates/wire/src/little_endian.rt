@@ -8,6 +8,7 @@ use crate::unsigned::Unsigned;
 
 // The number in the n bytes from `at`, or 0 where they are not all there: the reading that every width shares. The records' callers know
 // that they are; counting those that are there would be a second way to read each number, which no compiler spares.
+#[tactic(auto, unfolding(crate::specs::LittleEndian::number_at), using(crate::proofs::Laws::Layout::power_positive))]
 fn read_bytes(s: &[u8], at: usize, n: usize) -> u32
     requires { n ≤ 4 }
     ensures { (result ≡ number_at n s.now at) × (result < 256 ^ n) }
