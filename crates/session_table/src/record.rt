@@ -1,10 +1,10 @@
 // The session record that a host keeps for a connection.
 ghost use Rattle.std.specs.Prelude.{◌≡◌};
-ghost use Rattle.session_table.specs.Record.{fresh_session, is_open};
+ghost use Rattle.session_table.specs.Record.{fresh_session};
 
 use message_rules::accessors::SourceId;
 
-#[derive(Clone, Copy)]
+#[derive(Clone, Copy, PartialEq, Eq)]
 pub enum State {
     Waiting,
     Handshake,
@@ -37,19 +37,5 @@ impl Session {
                 bytes: [0u8; 16],
             },
         }
-    }
-}
-
-// Whether a state is any but Closed.
-pub(crate) fn is_open(state: State) -> bool
-    ensures { result ≡ is_open state }
-{
-    match state {
-        State::Waiting => true,
-        State::Handshake => true,
-        State::PinWait => true,
-        State::ReadyWait => true,
-        State::Projecting => true,
-        State::Closed => false,
     }
 }
