@@ -16,11 +16,8 @@ pub enum Next {
     CheckPin,
     // To PinWait if the kept options ask for a PIN, else to ReadyWait.
     PinOrReady,
-    // To the state named, which may be the same.
-    ToHandshake,
-    ToReadyWait,
-    ToProjecting,
-    ToClosed,
+    // To this state, which may be the same.
+    To(State),
 }
 
 // What the event does in the state.
@@ -33,14 +30,14 @@ pub fn expected(event: u8, state: State) -> Next
     };
     match (event, state) {
         (_, State::Closed) => Next::Unexpected,
-        (Event::SourceReady, State::Waiting | State::ReadyWait) => Next::ToProjecting,
-        (Event::StopProjection | Event::ConnectionLost, _) => Next::ToClosed,
-        (Event::SecurityHandshake, State::Waiting | State::Handshake) => Next::ToHandshake,
-        (Event::SessionRequest, State::Waiting) => Next::ToHandshake,
+        (Event::SourceReady, State::Waiting | State::ReadyWait) => Next::To(State::Projecting),
+        (Event::StopProjection | Event::ConnectionLost, _) => Next::To(State::Closed),
+        (Event::SecurityHandshake, State::Waiting | State::Handshake) => Next::To(State::Handshake),
+        (Event::SessionRequest, State::Waiting) => Next::To(State::Handshake),
         (Event::PinChallenge, State::PinWait) => Next::CheckPin,
         (Event::HandshakeDone, State::Handshake) => Next::PinOrReady,
-        (Event::PinRight, State::PinWait) => Next::ToReadyWait,
-        (Event::PinWrong, State::PinWait) => Next::ToClosed,
+        (Event::PinRight, State::PinWait) => Next::To(State::ReadyWait),
+        (Event::PinWrong, State::PinWait) => Next::To(State::Closed),
         // A PIN Response too: a sink sends it and gets none.
         _ => Next::Unexpected,
     }

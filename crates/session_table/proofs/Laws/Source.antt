@@ -1,5 +1,5 @@
 -- Two Source IDs of 16 bytes have the same bytes exactly where they are equal. Assumes nothing.
-use Rattle.std.proofs.Common.{◌≡◌, ℕ, Bool, List, length, get_or, sym, refl, ◌∙◌, arith, eqb-true}
+use Rattle.std.proofs.Common.{◌≡◌, ℕ, List, length, get_or, sym, refl, ◌∙◌, arith, eqb-true}
 use Rattle.std.specs.Bool.{Decides}
 use Rattle.std.specs.Str.{bytes_eq}
 use Rattle.std.proofs.lemmas.Bool.Decides.{same_from_decides}
