@@ -7,7 +7,7 @@ use Rattle.session_table.specs.declared.record.State.{State}
 use Rattle.session_table.specs.declared.record.State.TheVariants as state
 use Rattle.session_table.specs.declared.record.Session.{Session}
 use Rattle.session_table.specs.declared.table.Next.{Next}
-use Rattle.session_table.specs.declared.table.Next.TheVariants.{NoEvent, Unexpected, CheckPin, PinOrReady, ToHandshake, ToReadyWait, ToProjecting, ToClosed}
+use Rattle.session_table.specs.declared.table.Next.TheVariants.{NoEvent, Unexpected, CheckPin, PinOrReady, To}
 use Rattle.session_table.specs.Source.{carried, other_source}
 use Rattle.session_table.specs.Table.{is_event, table}
 use Rattle.session_step.specs.declared.step.Answer.{Answer}
@@ -63,10 +63,7 @@ follow NoEvent s event source options = refused status.UnknownKind 0 s
 follow Unexpected s event source options = refused status.UnexpectedEvent 0 (closed s)
 follow CheckPin s event source options = accepted s s.state true event source options
 follow PinOrReady s event source options = accepted s (pin_or_ready s.options) false event source options
-follow ToHandshake s event source options = accepted s state.Handshake false event source options
-follow ToReadyWait s event source options = accepted s state.ReadyWait false event source options
-follow ToProjecting s event source options = accepted s state.Projecting false event source options
-follow ToClosed s event source options = accepted s state.Closed false event source options
+follow (To state) s event source options = accepted s state false event source options
 
 -- 4 first, in any state; then 15; then the table
 unfoldable pub step_of : Session → ℕ → SourceId → ℕ → Stepped

@@ -14,7 +14,7 @@ use Rattle.session_table.specs.declared.record.State.{State}
 use Rattle.session_table.specs.declared.record.State.TheVariants as state
 use Rattle.session_table.specs.declared.record.Session.{Session}
 use Rattle.session_table.specs.declared.table.Next.{Next}
-use Rattle.session_table.specs.declared.table.Next.TheVariants.{NoEvent, Unexpected, CheckPin, PinOrReady, ToHandshake, ToReadyWait, ToProjecting, ToClosed}
+use Rattle.session_table.specs.declared.table.Next.TheVariants.{NoEvent, Unexpected, CheckPin, PinOrReady, To}
 use Rattle.message_rules.specs.Accessors.{no_source}
 use Rattle.session_table.specs.Record.{fresh_session, is_open}
 use Rattle.session_table.specs.Source.{carried, other_source}
@@ -56,10 +56,7 @@ entered s e NoEvent known p q = no_event q
 entered s e Unexpected known p q = unexpected q
 entered s e CheckPin known p q = taken known (ap is_taken p) true (q ∙ sym (ap (λ (n : Next). takes n true s e) p))
 entered s e PinOrReady known p q = taken known (ap is_taken p) false (q ∙ sym (ap (λ (n : Next). takes n false s e) p))
-entered s e ToHandshake known p q = taken known (ap is_taken p) false (q ∙ sym (ap (λ (n : Next). takes n false s e) p))
-entered s e ToReadyWait known p q = taken known (ap is_taken p) false (q ∙ sym (ap (λ (n : Next). takes n false s e) p))
-entered s e ToProjecting known p q = taken known (ap is_taken p) false (q ∙ sym (ap (λ (n : Next). takes n false s e) p))
-entered s e ToClosed known p q = taken known (ap is_taken p) false (q ∙ sym (ap (λ (n : Next). takes n false s e) p))
+entered s e (To t) known p q = taken known (ap is_taken p) false (q ∙ sym (ap (λ (n : Next). takes n false s e) p))
 
 way : (s : Session) (e : Event) → Way s e
 unfolding step_of other_source
