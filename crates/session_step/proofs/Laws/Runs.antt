@@ -5,6 +5,7 @@ use mathlib.Core.List.{List, [], ◌∷◌}
 use mathlib.Core.Logic.{◌⊎◌, inl, inr}
 use mathlib.Core.Bool.{Bool, true, false, cond, ◌&&◌, ◌||◌}
 use borrow.Author.Tests.{eqb-true}
+use Rattle.std.proofs.Math.Bool.{and-true, or_assoc}
 use lib.Dec.{eqb}
 use Rattle.wire.specs.declared.status.Status.TheVariants as status
 use Rattle.wire.specs.Status.{number_of}
@@ -25,14 +26,6 @@ use Rattle.session_step.specs.Step.{wants_pin, pin_or_ready, options_from, optio
 use Rattle.session_step.specs.Runs.{Event, stepped, next, run, is_accepted, first_source, pin_right}
 use Rattle.session_step.specs.Theorems.{ClosedRefuses, ClosedForGood, RefusalKeeps, FirstIsKept, KeptForGood, OtherChangesNothing, ReachedByReady, PinBeforeProjecting}
 use Rattle.session_step.proofs.Laws.Step.{carried_event, step_other}
-
-and_true : (b : Bool) → b && true ≡ b
-and_true true = refl
-and_true false = refl
-
-or_assoc : (a b c : Bool) → (a || b) || c ≡ a || (b || c)
-or_assoc true b c = refl
-or_assoc false b c = refl
 
 abbrev entry : Session → Event → Next
 entry s e = table s.state e.number
@@ -304,7 +297,7 @@ sound_next s e right h = by (way s e)
     by (other o q) = subst (λ (r : Stepped). soundly r.session (right || again) ≡ true) (sym q) (more_sound s.state _ right again h)
     by (unexpected q) = subst (λ (r : Stepped). soundly r.session (right || again) ≡ true) (sym q) refl
     by (taken known t check q) =
-        let a : again ≡ eqb e.number 8 = rw (taken_accepted s e (entry s e) check q) (and_true (eqb e.number 8)) in
+        let a : again ≡ eqb e.number 8 = rw (taken_accepted s e (entry s e) check q) (and-true (eqb e.number 8)) in
         let pin = pin_after_lem s.state e.number s.options e.options in
         let stays = implied (soundly s right && is_taken (entry s e)) _ (stays_sound_lem s.state e.number (wants_pin s.options) (wants_pin e.options) right known) (simp (h, t)) in
         subst (λ (r : Stepped). soundly r.session (right || again) ≡ true) (sym q) (rw (pin, a) stays)
