@@ -14,7 +14,8 @@ use Rattle.session_step.specs.declared.step.Stepped.{Stepped}
 use Rattle.session_step.specs.Step.{step_of}
 use Rattle.session_step.specs.Message.{on_message}
 use Rattle.wire.specs.Laid.{laid}
-use Rattle.session_layout.specs.SessionLayout.{source_at, state_number, session_bytes, session_of, same_session}
+use Rattle.session_layout.specs.SessionLayout.{source_at, session_bytes, session_of, same_session}
+use Rattle.session_table.specs.Record.{state_number}
 use Rattle.host_answers.specs.declared.Step.{Step}
 
 -- an answer, with what the lent record then holds

@@ -28,7 +28,8 @@ use Rattle.session_step.specs.Step.{closed, refused}
 use Rattle.session_step.specs.Runs.{Event, stepped, status_of}
 use Rattle.session_step.proofs.Laws.Runs.{refusal_keeps}
 use Rattle.session_step.specs.Message.{after_read, on_message}
-use Rattle.session_layout.specs.SessionLayout.{state_number, session_of, same_session, SameAsItself}
+use Rattle.session_layout.specs.SessionLayout.{session_of, same_session, SameAsItself}
+use Rattle.session_table.specs.Record.{state_number}
 use Rattle.session_layout.proofs.Laws.SessionLayout.{same_as_itself}
 use Rattle.session_calls.specs.SessionCalls.{step_result, short_step, bytes_left, result_on, source_in, lent_enough, session_step, session_message, KeptIfRefused, StepRefusalKeeps, MessageRefusalKeeps}
 

@@ -3,7 +3,8 @@ use mathlib.Core.Path.{◌≡◌, sym, ◌∙◌}
 use mathlib.Core.Bool.{true, false}
 use borrow.Author.Tests.{eq-eqb, ne_eqb}
 use lib.Dec.{eqb}
-use Rattle.session_layout.specs.SessionLayout.{state_number, same_session}
+use Rattle.session_layout.specs.SessionLayout.{same_session}
+use Rattle.session_table.specs.Record.{state_number}
 use Rattle.session_calls.proofs.Laws.SessionCalls.{flag_decides}
 use Rattle.session_calls.proofs.is_same.Goals as goal
 

@@ -7,7 +7,8 @@ use lib.Dec.{eqb}
 use Rattle.wire.specs.Laid.{laid}
 use Rattle.wire.specs.Number.{written}
 use Rattle.wire.specs.Status.{number_of}
-use Rattle.session_layout.specs.SessionLayout.{state_number, session_bytes, same_session}
+use Rattle.session_layout.specs.SessionLayout.{session_bytes, same_session}
+use Rattle.session_table.specs.Record.{state_number}
 use Rattle.session_calls.specs.SessionCalls.{bytes_left}
 use Rattle.session_calls.proofs.leave.Goals as goal
 
