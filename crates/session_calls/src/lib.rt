@@ -41,32 +41,27 @@ fn short() -> Step
 fn answered(answer: Answer) -> Step
     ensures { result ≡ answer_of answer }
 {
-    let status = answer.status;
     Step {
-        status: status::number(status),
+        status: status::number(answer.status),
         check: answer.check,
         place: answer.place,
     }
 }
 
 // Whether a step made of the session `before` the same one. Where it stays whether a Source ID is kept, the bytes need no look.
+#[tactic(auto, using(crate::proofs::Laws::SessionCalls::flag_decides), unfolding(session_layout::specs::SessionLayout::same_session))]
 fn is_same(before: Session, after: Session) -> bool
     requires { SourceStays before after }
     ensures { result ≡ same_session before after }
 {
-    let old = before.state;
-    let new = after.state;
-    if session_layout::number_of(old) != session_layout::number_of(new) {
-        return false;
-    }
-    if before.options != after.options {
-        return false;
-    }
-    before.source.present == after.source.present
+    before.state == after.state
+        && before.options == after.options
+        && before.source.present == after.source.present
 }
 
 // Leaves what the step makes of the session `before` in the record, and answers. Where it is the same session, each byte stays; else an accepted
 // step writes it, and a refused one its state alone: 14 closes an open session, and every other refusal changes nothing.
+#[tactic(auto, unfolding(crate::specs::SessionCalls::bytes_left))]
 fn leave(record: &mut [u8], before: Session, stepped: Stepped) -> Step
     requires { SourceStays before stepped.session }
     ensures { step_result result «record».new ≡ result_of before stepped «record».old }
@@ -76,17 +71,16 @@ fn leave(record: &mut [u8], before: Session, stepped: Stepped) -> Step
     if is_same(before, session) {
         return answered(answer);
     }
-    let status = answer.status;
-    if status::number(status) == 0 {
+    if status::number(answer.status) == 0 {
         session_layout::write(record, session);
         return answered(answer);
     }
-    let state = session.state;
-    put_u8(record, 0, session_layout::number_of(state));
+    put_u8(record, 0, u8::from(session.state));
     answered(answer)
 }
 
 // The Source ID in the first 16 bytes; fewer are none.
+#[tactic(auto, unfolding(crate::specs::SessionCalls::source_in))]
 fn source_of(bytes: &[u8]) -> SourceId
     ensures { result ≡ source_in bytes.now }
 {
@@ -101,19 +95,12 @@ fn source_of(bytes: &[u8]) -> SourceId
 
 // Whether a record of so many bytes has all of its own, and with a message `source` is a Source ID or none. With any other event it is not
 // looked at.
+#[tactic(auto, unfolding(crate::specs::SessionCalls::lent_enough))]
 fn lent_enough(lent: usize, event: u8, source: &[u8]) -> bool
     ensures { result ≡ lent_enough lent event source.now }
 {
-    if lent < session_layout::LENGTH {
-        return false;
-    }
-    if source.len() == 0 {
-        return true;
-    }
-    if 16 <= source.len() {
-        return true;
-    }
-    !rules::known_command(event)
+    session_layout::LENGTH <= lent
+        && (source.is_empty() || 16 <= source.len() || !rules::known_command(event))
 }
 
 // A step with an event: 1 to 6 the commands of messages, 7 handshake done, 8 PIN right, 9 PIN wrong, 10 connection lost. With a message `source`

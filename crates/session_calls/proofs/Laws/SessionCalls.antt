@@ -19,7 +19,8 @@ use Rattle.session_step.proofs.Laws.Runs.{source_stays}
 use Rattle.session_step.specs.Step.{step_of}
 use Rattle.session_step.specs.Message.{after_read, on_message}
 use Rattle.session_layout.specs.SessionLayout.{session_of}
-use Rattle.session_layout.proofs.Laws.SessionLayout.{beq_true, bytes_same}
+use Rattle.session_table.proofs.Laws.Source.{same_itself}
+use Rattle.std.specs.Cmp.{booleans_Decides}
 use Rattle.session_calls.specs.SessionCalls.{SourceStays, step_result, short_step, result_on, source_in, lent_enough, session_step, session_message, LentSourceUnseen}
 
 -- ---- a short record or Source ID, or a step
@@ -87,6 +88,6 @@ flag_decides a b h = by (beq a.source.present b.source.present) refl
   where
     by : (v : Bool) → beq a.source.present b.source.present ≡ v → v ≡ v && same_bytes a.source.bytes b.source.bytes
     by true e =
-        let same : a.source ≡ b.source = h (beq_true a.source.present b.source.present e) in
-        sym (subst (λ (x : SourceId). same_bytes a.source.bytes x.bytes ≡ true) same (bytes_same a.source.bytes))
+        let same : a.source ≡ b.source = h ((booleans_Decides a.source.present b.source.present).0 e) in
+        sym (subst (λ (x : SourceId). same_bytes a.source.bytes x.bytes ≡ true) same (same_itself a.source.bytes))
     by false e = refl
