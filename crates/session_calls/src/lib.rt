@@ -19,6 +19,7 @@ use wire::status;
 use wire::status::Status;
 
 // Writes the session of a new connection.
+#[tactic(auto, unfolding(session_layout::specs::SessionLayout::session_bytes, wire::specs::Number::bytes_in))]
 pub fn fresh(record: &mut [u8]) -> u8
     ensures answer { result ≡ fresh_answer 19 (length «record».old) }
     ensures bytes { «record».new ≡ laid (session_bytes fresh_session) «record».old }
@@ -66,17 +67,15 @@ fn leave(record: &mut [u8], before: Session, stepped: Stepped) -> Step
     requires { SourceStays before stepped.session }
     ensures { step_result result «record».new ≡ result_of before stepped «record».old }
 {
-    let answer = stepped.answer;
     let session = stepped.session;
-    if is_same(before, session) {
-        return answered(answer);
+    if !is_same(before, session) {
+        if status::number(stepped.answer.status) == 0 {
+            session_layout::write(record, session);
+        } else {
+            put_u8(record, 0, u8::from(session.state));
+        }
     }
-    if status::number(answer.status) == 0 {
-        session_layout::write(record, session);
-        return answered(answer);
-    }
-    put_u8(record, 0, u8::from(session.state));
-    answered(answer)
+    answered(stepped.answer)
 }
 
 // The Source ID in the first 16 bytes; fewer are none.
@@ -105,6 +104,7 @@ fn lent_enough(lent: usize, event: u8, source: &[u8]) -> bool
 
 // A step with an event: 1 to 6 the commands of messages, 7 handshake done, 8 PIN right, 9 PIN wrong, 10 connection lost. With a message `source`
 // has no bytes where it carries no Source ID, else the Source ID in its first 16; with any other event it is not looked at.
+#[tactic(auto, using(crate::proofs::Laws::SessionCalls::event_stays), unfolding(crate::specs::SessionCalls::session_step))]
 pub fn on_event(record: &mut [u8], event: u8, source: &[u8], options: u8) -> Step
     ensures { step_result result «record».new ≡ session_step «record».old event source.now options }
 {
@@ -117,6 +117,7 @@ pub fn on_event(record: &mut [u8], event: u8, source: &[u8], options: u8) -> Ste
 }
 
 // A step with a message, which is all of the lent bytes.
+#[tactic(auto, using(crate::proofs::Laws::SessionCalls::message_stays), unfolding(crate::specs::SessionCalls::session_message))]
 pub fn on_message(record: &mut [u8], bytes: &[u8]) -> Step
     ensures { step_result result «record».new ≡ session_message «record».old bytes.now }
 {

@@ -20,6 +20,7 @@ use wire::little_endian::{put_u8, u8_at};
 pub const LENGTH: usize = 19;
 
 // The 16 bytes of a Source ID from a place on; a byte past the end counts as 0.
+#[tactic(auto, unfolding(crate::specs::SessionLayout::id_at, scan::specs::Bytes::copied))]
 fn id_at(bytes: &[u8], at: usize) -> [u8; 16]
     ensures { result ≡ id_at at bytes.now }
 {
