@@ -19,7 +19,7 @@ pub enum Event {
 #[derive(Clone, Copy, PartialEq, Eq)]
 pub struct NoSuchEvent;
 
-// A host gives an event by its number, and a message by its command.
+// A host in C gives an event by its number, and a message by its command: so the public functions take the number, and any number.
 impl TryFrom<u8> for Event {
     type Error = NoSuchEvent;
 
