@@ -7,18 +7,17 @@ use session_table::event::Event;
 use session_table::record::{Session, State};
 use session_table::table::Next;
 use session_table::{source, table};
-use wire::status::Status;
+use wire::status::{Refusal, Refused};
 
-// What a step answers.
-#[derive(Clone, Copy)]
-pub struct Answer {
-    // Accepted, or the refusal.
-    pub status: Status,
-    // Where in the message the refusal's cause stands; 0 where it is not the message's.
-    pub place: usize,
-    // The host shall check the PIN.
+// What an accepted step has the host do.
+#[derive(Clone, Copy, PartialEq, Eq)]
+pub struct Accepted {
+    // Check the PIN.
     pub check: bool,
 }
+
+// What a step answers. The place of a refusal is where in the message its cause stands; 0 where it is not the message's.
+pub type Answer = Result<Accepted, Refused>;
 
 // The answer, and the session afterwards.
 #[derive(Clone, Copy)]
@@ -77,11 +76,7 @@ fn accept(session: Session, to: State, check: bool, brought: Brought) -> Stepped
     ensures { result ≡ accepted session to check brought.event brought.source brought.options }
 {
     Stepped {
-        answer: Answer {
-            status: Status::Accepted,
-            place: 0,
-            check,
-        },
+        answer: Ok(Accepted { check }),
         session: Session {
             state: to,
             options: options_after(session, brought),
@@ -90,16 +85,12 @@ fn accept(session: Session, to: State, check: bool, brought: Brought) -> Stepped
     }
 }
 
-// An event or a message is refused; the session is given.
-pub(crate) fn refuse(status: Status, place: usize, session: Session) -> Stepped
-    ensures { result ≡ refused status place session }
+// An event is refused; the session is given.
+fn refuse(refusal: Refusal, session: Session) -> Stepped
+    ensures { result ≡ refused refusal 0 session }
 {
     Stepped {
-        answer: Answer {
-            status,
-            place,
-            check: false,
-        },
+        answer: Err(refusal.into()),
         session,
     }
 }
@@ -119,8 +110,8 @@ fn follow(next: Next, session: Session, brought: Brought) -> Stepped
     ensures { result ≡ follow next session brought.event brought.source brought.options }
 {
     match next {
-        Next::NoEvent => refuse(Status::UnknownKind, 0, session),
-        Next::Unexpected => refuse(Status::UnexpectedEvent, 0, close(session)),
+        Next::NoEvent => refuse(Refusal::UnknownKind, session),
+        Next::Unexpected => refuse(Refusal::UnexpectedEvent, close(session)),
         Next::CheckPin => accept(session, session.state, true, brought),
         Next::PinOrReady => accept(session, pin_or_ready(session.options), false, brought),
         Next::To(state) => accept(session, state, false, brought),
@@ -134,7 +125,7 @@ pub fn step(session: Session, event: u8, source: SourceId, options: u8) -> Stepp
     ensures { result ≡ step_of session event source options }
 {
     if source::is_other(session, event, source) {
-        return refuse(Status::OtherSource, 0, session);
+        return refuse(Refusal::OtherSource, session);
     }
     let brought = Brought {
         event,

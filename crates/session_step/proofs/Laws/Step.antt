@@ -7,7 +7,7 @@ use borrow.Author.Tests.{le-leb, leb-true}
 use lib.Dec.{leb}
 use Rattle.message_rules.specs.Rules.{known_command}
 use Rattle.wire.proofs.Laws.Bool.{both}
-use Rattle.wire.specs.declared.status.Status.TheVariants as status
+use Rattle.wire.specs.declared.status.Refusal.TheVariants as refusal
 use Rattle.message_rules.specs.declared.accessors.SourceId.{SourceId}
 use Rattle.session_table.specs.declared.record.Session.{Session}
 use Rattle.session_table.specs.Record.{is_open}
@@ -30,6 +30,6 @@ other_event s event x e =
     carried_event event x (both (carried event x) (s.source.present && not (same_bytes s.source.bytes x.bytes)) r).0
 
 pub step_other
-    : (s : Session) (event : ℕ) (x : SourceId) (options : ℕ) → other_source s event x ≡ true → step_of s event x options ≡ refused status.OtherSource 0 s
+    : (s : Session) (event : ℕ) (x : SourceId) (options : ℕ) → other_source s event x ≡ true → step_of s event x options ≡ refused refusal.OtherSource 0 s
 unfolding step_of
 step_other s event x options e = simp (other_event s event x e, e)
