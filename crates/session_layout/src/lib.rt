@@ -15,7 +15,7 @@ ghost use Rattle.session_layout.specs.SessionLayout.{id_at, source_at, session_b
 use message_rules::accessors::SourceId;
 use scan::bytes;
 use session_table::record::{Session, State};
-use wire::little_endian::{put_u8, u8_at};
+use wire::little_endian;
 
 pub const LENGTH: usize = 19;
 
@@ -47,9 +47,9 @@ pub fn read(record: &[u8]) -> Session
     ensures { result ≡ session_of «record».now }
 {
     Session {
-        state: State::from(u8_at(record, 0)),
-        options: u8_at(record, 1),
-        source: source_at(u8_at(record, 2) != 0, record, 3),
+        state: State::from(little_endian::read::<u8>(record, 0)),
+        options: little_endian::read(record, 1),
+        source: source_at(little_endian::read::<u8>(record, 2) != 0, record, 3),
     }
 }
 
@@ -60,8 +60,8 @@ pub fn write(record: &mut [u8], session: Session)
     if record.len() < LENGTH {
         return;
     }
-    put_u8(record, 0, u8::from(session.state));
-    put_u8(record, 1, session.options);
-    put_u8(record, 2, u8::from(session.source.present));
+    little_endian::write(record, 0, u8::from(session.state));
+    little_endian::write(record, 1, session.options);
+    little_endian::write(record, 2, u8::from(session.source.present));
     record[3..LENGTH].copy_from_slice(&session.source.bytes);
 }

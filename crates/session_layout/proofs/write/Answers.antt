@@ -25,9 +25,9 @@ returns c =
     let xs = a.«record».now in
     let id = a.session.source.bytes in
     let sixteen : length id ≡ 16 = search rules in
-    let state = next_as (nothing 0 xs) 1 _ c.from.ensures c.put_u8.ensures.bytes (omega arith) in
-    let options = next state 1 _ c.put_u8-2.ensures.bytes (omega arith) in
-    let present = next_as options 1 _ (c.from-2.ensures ∙ flag_byte a.session.source.present) c.put_u8-3.ensures.bytes (omega arith) in
-    let front = c.put_u8-3.new.out in
+    let state = next_as (nothing 0 xs) 1 _ c.from.ensures c.write.ensures.bytes (omega arith) in
+    let options = next state 1 _ c.write-2.ensures.bytes (omega arith) in
+    let present = next_as options 1 _ (c.from-2.ensures ∙ flag_byte a.session.source.present) c.write-3.ensures.bytes (omega arith) in
+    let front = c.write-3.new.out in
     let copied = ap (put_mid 3 16 front) c.copy_from_slice.ensures.after ∙ part_back 3 16 front id sixteen in
     whole (next_part present id 16 sixteen copied (omega arith)) (omega arith)
