@@ -14,9 +14,8 @@ use message_rules::rules;
 use session_step::step::{Answer, Stepped};
 use session_step::{message_step, step};
 use session_table::record::Session;
-use wire::number::put_u8;
-use wire::status;
-use wire::status::Status;
+use wire::number;
+use wire::status::Refusal;
 
 // Writes the session of a new connection.
 #[tactic(auto, unfolding(session_layout::specs::SessionLayout::session_bytes, wire::specs::Number::bytes_in))]
@@ -27,26 +26,29 @@ pub fn fresh(record: &mut [u8]) -> u8
     host_answers::fresh(record, session_layout::LENGTH)
 }
 
+// A step's answer by the paper's number. It is no From, which would have to stand beside one of the two types: each has a crate of its own.
+fn answered(answer: Answer) -> Step
+    ensures { result ≡ answer_of answer }
+{
+    match answer {
+        Ok(accepted) => Step {
+            status: 0,
+            check: accepted.check,
+            place: 0,
+        },
+        Err(refused) => Step {
+            status: refused.refusal.number(),
+            check: false,
+            place: refused.place,
+        },
+    }
+}
+
 // A lent slice is too short.
 fn short() -> Step
     ensures { result ≡ short_step }
 {
-    Step {
-        status: status::number(Status::NoRoom),
-        check: false,
-        place: 0,
-    }
-}
-
-// A step's answer by the paper's number.
-fn answered(answer: Answer) -> Step
-    ensures { result ≡ answer_of answer }
-{
-    Step {
-        status: status::number(answer.status),
-        check: answer.check,
-        place: answer.place,
-    }
+    answered(Err(Refusal::NoRoom.into()))
 }
 
 // Whether a step made of the session `before` the same one. Where it stays whether a Source ID is kept, the bytes need no look.
@@ -69,10 +71,10 @@ fn leave(record: &mut [u8], before: Session, stepped: Stepped) -> Step
 {
     let session = stepped.session;
     if !is_same(before, session) {
-        if status::number(stepped.answer.status) == 0 {
+        if stepped.answer.is_ok() {
             session_layout::write(record, session);
         } else {
-            put_u8(record, 0, u8::from(session.state));
+            number::write(record, 0, u8::from(session.state));
         }
     }
     answered(stepped.answer)

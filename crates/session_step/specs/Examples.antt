@@ -14,7 +14,7 @@ use Rattle.session_table.specs.Record.{fresh_session}
 use Rattle.session_table.specs.Source.{carried, other_source, same_bytes}
 use Rattle.session_table.specs.Table.{is_event}
 use Rattle.session_step.specs.Step.{wants_pin, pin_or_ready, options_from, source_after, accepted, refused, closed, stepped_to, step_of}
-use Rattle.session_step.specs.Runs.{Event, stepped, next, run, answer_of, is_accepted, pin_right}
+use Rattle.session_step.specs.Runs.{Event, stepped, next, run, answer_to, is_accepted, pin_right}
 
 -- P12: Waiting, Stop Projection: Closed, accepted
 pub p12
@@ -76,9 +76,9 @@ closed_for_good_met = (refl, refl)
 
 -- RefusalKeeps: Source Ready in PinWait is 14 and closes; Stop Projection of another source is 15 there and changes nothing
 pub refusal_keeps_met
-    : (answer_of (session_in state.PinWait) ready ≡ Err (refused_at refusal.UnexpectedEvent 0))
+    : (answer_to (session_in state.PinWait) ready ≡ Err (refused_at refusal.UnexpectedEvent 0))
     × (stepped (session_in state.PinWait) ready ≡ refused refusal.UnexpectedEvent 0 (closed (session_in state.PinWait)))
-    × (answer_of (session_in state.PinWait) strange_stop ≡ Err (refused_at refusal.OtherSource 0))
+    × (answer_to (session_in state.PinWait) strange_stop ≡ Err (refused_at refusal.OtherSource 0))
     × (stepped (session_in state.PinWait) strange_stop ≡ refused refusal.OtherSource 0 (session_in state.PinWait))
 unfolding step_of is_event other_source known_command carried same_bytes all_below
 refusal_keeps_met = (refl, refl, refl, refl)

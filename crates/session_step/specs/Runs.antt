@@ -25,11 +25,11 @@ run s [] = s
 run s (e ∷ l) = run (next s e) l
 
 -- what it is answered with, and whether it is accepted
-abbrev pub answer_of : Session → Event → Answer
-answer_of s e = (stepped s e).answer
+abbrev pub answer_to : Session → Event → Answer
+answer_to s e = (stepped s e).answer
 
 abbrev pub is_accepted : Session → Event → Bool
-is_accepted s e = is_ok (answer_of s e)
+is_accepted s e = is_ok (answer_to s e)
 
 -- the first Source ID that an accepted event carries, if one does
 unfoldable pub first_source : Session → List Event → SourceId

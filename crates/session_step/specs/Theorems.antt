@@ -12,7 +12,7 @@ use Rattle.session_table.specs.Record.{fresh_session, is_open}
 use Rattle.session_table.specs.Source.{carried, same_bytes}
 use Rattle.session_table.specs.Table.{is_event}
 use Rattle.session_step.specs.Step.{wants_pin, closed, refused, step_of}
-use Rattle.session_step.specs.Runs.{Event, stepped, next, run, answer_of, is_accepted, first_source, pin_right}
+use Rattle.session_step.specs.Runs.{Event, stepped, next, run, answer_to, is_accepted, first_source, pin_right}
 
 -- "In Closed every event is 14 and nothing changes": and so after any list of events
 unfoldable pub ClosedRefuses : Type 0
@@ -25,7 +25,7 @@ ClosedForGood = (s : Session) (l : List Event) → s.state ≡ state.Closed → 
 -- "Every refusal changes nothing, except 14 in an open session, which closes it"; "Closing changes the state's name only"
 unfoldable pub RefusalKeeps : Type 0
 RefusalKeeps =
-    (s : Session) (e : Event) (r : Refused) → answer_of s e ≡ Err r
+    (s : Session) (e : Event) (r : Refused) → answer_to s e ≡ Err r
     → stepped s e ≡ refused r.refusal 0 (cond (eqb (refusal_number r.refusal) 14 && is_open s.state) (closed s) s)
 
 -- "The first Source ID carried by an accepted event is kept": over any list of events from a fresh session

@@ -7,9 +7,8 @@ use mathlib.Core.List.{List}
 use lib.ListN.{length}
 use Rattle.message_rules.specs.Rules.{known_command}
 use Rattle.message_rules.specs.declared.accessors.SourceId.{SourceId}
-use Rattle.message_reader.specs.declared.Answer.{Answer}
-use Rattle.message_reader.specs.declared.Answer.TheVariants as reader
-use Rattle.message_reader.specs.Reading.{read_message}
+use Rattle.std.specs.Prelude.{Ok, Err}
+use Rattle.message_reader.specs.Reading.{Answer, read_message}
 use Rattle.message_rules.specs.Accessors.{source_of, options_of}
 use Rattle.session_table.specs.declared.record.Session.{Session}
 use Rattle.session_table.specs.Source.{same_bytes}
@@ -54,8 +53,8 @@ unfolding on_message
 message_stays s bytes = by (read_message bytes)
   where
     by : (a : Answer) → SourceStays s (after_read bytes s a).session
-    by (reader.Accepted m) = event_stays s m.command (source_of bytes m) (options_of bytes m)
-    by (reader.Refused st place) = λ h. refl
+    by (Ok m) = event_stays s m.command (source_of bytes m) (options_of bytes m)
+    by (Err r) = λ h. refl
 
 -- the flag then decides on the Source ID
 pub flag_decides
