@@ -4,7 +4,7 @@ ghost use Rattle.session_table.specs.Record.{fresh_session, is_open};
 
 use message_rules::accessors::SourceId;
 
-#[derive(Clone, Copy)]
+#[derive(Clone, Copy, Debug)]
 pub enum State {
     Waiting,
     Handshake,
