@@ -3,26 +3,130 @@
 // eight places.
 #![tactic(auto)]
 
-use cursor_fragment::start::Start;
 use cursor_fragment::{Fragment, FragmentAnswer};
+use cursor_host::shown;
 use cursor_packet::position;
-use cursor_packet::position::{Position, PositionAnswer};
+use cursor_packet::position::PositionAnswer;
 use cursor_picture::Picture;
 use cursor_pointer::{Pointer, PointerAnswer};
-use cursor_store::storing::{StoreAnswer, Stored};
-use hex::encode;
-use std::{fmt, io};
+use cursor_store::storing::StoreAnswer;
+use std::io;
 use wire::status;
 use wire::status::Status;
 
-// A refusal, as the line of each reader has it.
-struct Refused {
-    status: Status,
-    place: usize,
+fn refused(rt: &HostRuntime, status: Status, place: usize) -> io::Result<()> {
+    print!(rt; " refused {} {place}", status::number(status))
 }
 
-impl fmt::Display for Refused {
-    fn fmt<W: fmt::Write>(&self, f: &mut fmt::Formatter<W>) -> fmt::Result {
-        write!(f, "refused {} {}", status::number(self.status), self.place)
+fn print_fragment(rt: &HostRuntime, fragment: Fragment) -> io::Result<()> {
+    let Fragment {
+        sequence,
+        total,
+        id,
+        offset,
+        starts,
+        start,
+    } = fragment;
+    print!(rt;
+        " accepted {sequence} {total} {id} {offset} {}",
+        starts as u8
+    )?;
+    print!(rt; " {} {} {}", start.image_type, start.hot_x, start.hot_y)
+}
+
+fn read_position(rt: &HostRuntime, packet: &[u8]) -> io::Result<()> {
+    print!(rt; "position")?;
+    match position::read(packet) {
+        PositionAnswer::Accepted(position) => {
+            print!(rt;
+                " accepted {} {} {}",
+                position.sequence, position.x, position.y
+            )?;
+        }
+        PositionAnswer::Refused { status, place } => refused(rt, status, place)?,
     }
+    println!(rt; "")
+}
+
+fn read_fragment(rt: &HostRuntime, packet: &[u8]) -> io::Result<()> {
+    print!(rt; "fragment")?;
+    match cursor_fragment::read(packet) {
+        FragmentAnswer::Accepted(fragment) => print_fragment(rt, fragment)?,
+        FragmentAnswer::Refused { status, place } => refused(rt, status, place)?,
+    }
+    println!(rt; "")
+}
+
+fn call_position(rt: &HostRuntime, packet: &[u8]) -> io::Result<()> {
+    print!(rt; "pointer")?;
+    match cursor_pointer::position(Pointer::fresh(), packet) {
+        PointerAnswer::Accepted(pointer) => {
+            print!(rt; " accepted")?;
+            shown::pointer(rt, pointer)?;
+        }
+        PointerAnswer::Refused { status, place } => refused(rt, status, place)?,
+    }
+    println!(rt; "")
+}
+
+// The line of a store ends with the picture's bytes and the marks, which a refusal leaves 2e and 07.
+fn call_store(rt: &HostRuntime, packet: &[u8]) -> io::Result<()> {
+    let mut image = [46; 8];
+    let mut marks = [7; 8];
+    print!(rt; "store")?;
+    match cursor_store::store(
+        Pointer::fresh(),
+        Picture::fresh(),
+        packet,
+        &mut image,
+        &mut marks,
+    ) {
+        StoreAnswer::Accepted(stored) => {
+            print!(rt; " accepted")?;
+            shown::pointer(rt, stored.pointer)?;
+            print!(rt; " picture")?;
+            shown::picture(rt, stored.picture)?;
+        }
+        StoreAnswer::Refused { status, place } => refused(rt, status, place)?,
+    }
+    let image = hex::encode(rt.alloc(), image)?;
+    let marks = hex::encode(rt.alloc(), marks)?;
+    println!(rt; " bytes {image} marks {marks}")
+}
+
+fn show(rt: &HostRuntime, packet: &[u8]) -> io::Result<()> {
+    println!(rt; "{}:", hex::encode(rt.alloc(), packet)?)?;
+    read_position(rt, packet)?;
+    read_fragment(rt, packet)?;
+    call_position(rt, packet)?;
+    call_store(rt, packet)
+}
+
+const PACKETS: [&[u8]; 10] = [
+    // P9.
+    b"\x80\x00\x00\x05\x00\x00\x00\x00\x00\x00\x00\x00\x01\x00\x07\xff\xfe\x00\x0a",
+    // P10, total 8: offset 8 with no data; offset 7 with two bytes; offset FFFFFFFF hex.
+    b"\x80\x00\x00\x05\x00\x00\x00\x00\x00\x00\x00\x00\x03\x00\x0d\x00\x00\x00\x08\x00\x01\x00\x00\x00\x08",
+    b"\x80\x00\x00\x05\x00\x00\x00\x00\x00\x00\x00\x00\x03\x00\x0f\x00\x00\x00\x08\x00\x01\x00\x00\x00\x07\x41\x42",
+    b"\x80\x00\x00\x05\x00\x00\x00\x00\x00\x00\x00\x00\x03\x00\x0d\x00\x00\x00\x08\x00\x01\xff\xff\xff\xff",
+    // A start with the first two of four bytes; with two bytes of one.
+    b"\x80\x00\x00\x1e\x00\x00\x00\x00\x00\x00\x00\x00\x02\x00\x14\x00\x00\x00\x04\x00\x09\xff\xfe\x00\x0a\x03\x00\x01\x00\x02\x41\x42",
+    b"\x80\x00\x00\x1e\x00\x00\x00\x00\x00\x00\x00\x00\x02\x00\x14\x00\x00\x00\x01\x00\x09\xff\xfe\x00\x0a\x03\x00\x01\x00\x02\x41\x42",
+    // No bytes; P9 with another first byte, with a type that is none, and with a size that is no position's.
+    b"",
+    b"\x90\x00\x00\x05\x00\x00\x00\x00\x00\x00\x00\x00\x01\x00\x07\xff\xfe\x00\x0a",
+    b"\x80\x00\x00\x05\x00\x00\x00\x00\x00\x00\x00\x00\x04\x00\x07\xff\xfe\x00\x0a",
+    b"\x80\x00\x00\x05\x00\x00\x00\x00\x00\x00\x00\x00\x01\x00\x08\xff\xfe\x00\x0a\x00",
+];
+
+fn run(rt: &HostRuntime) -> io::Result<()> {
+    for packet in PACKETS {
+        show(rt, packet)?;
+    }
+    Ok(())
+}
+
+// Where its lines can't be written the program ends as ever, with status 0.
+fn main(rt: HostRuntime) {
+    run(&rt).ok();
 }
