@@ -71,10 +71,10 @@ fn line(rt: &HostRuntime, case: Case) -> io::Result<()> {
         brought,
     } = case;
     print!(rt;
-        "{state:?} {event} {} {which} {options} {brought}:",
-        kept as u8
+        "{state:?} {event} {} {} {options} {brought}:",
+        kept as u8, carried as u8
     )?;
-    let after = in_place::lend_and_step(case.session(), event, case.carried(), brought);
+    let after = in_place::lend_and_step(case.session(), event, carried.source(), brought);
     let status = status::number(after.answer.status);
     print!(rt; " {status} {}", after.answer.check as u8)?;
     let session = after.session;
