@@ -18,7 +18,7 @@ pub struct Limits {
 }
 
 // The record of a value: the sink doesn't support the extension, or its limits.
-#[derive(Clone, Copy)]
+#[derive(Clone, Copy, PartialEq, Eq)]
 pub enum Value {
     NotSupported,
     Supported(Limits),

@@ -100,6 +100,7 @@ pub fn not_answered(status: Status) -> Yes
 }
 
 // Writes a fresh record, whose bytes are all 0, and answers 0; or 10 where fewer bytes are lent than the record needs, which then stay as they are.
+#[tactic(auto, unfolding(crate::specs::Fresh::fresh_answer, wire::specs::Laid::laid, wire::specs::Splice::splice))]
 pub fn fresh(record: &mut [u8], needed: usize) -> u8
     ensures answer { result ≡ fresh_answer needed (length «record».old) }
     ensures bytes { «record».new ≡ laid (replicate needed 0) «record».old }
@@ -107,6 +108,6 @@ pub fn fresh(record: &mut [u8], needed: usize) -> u8
     if record.len() < needed {
         return status::number(Status::NoRoom);
     }
-    bytes::fill(&mut record[0..needed], 0);
+    bytes::fill(&mut record[..needed], 0);
     status::number(Status::Accepted)
 }
