@@ -1,11 +1,10 @@
--- The record of a message as eight numbers, and the reader's answer as one: what the walk over a message leaves and gives. For each TLV type
--- the place and the length of its value are one number. Assumes nothing.
-use Rattle.std.specs.Prelude.{ℕ, ◌+◌, ◌*◌, ◌/◌, ◌%◌, not, cond, List, [], ◌∷◌, eqb, get_or, replicate}
-use Rattle.wire.specs.Status.{number_of}
+-- The record of a message as eight numbers: what the walk over a message leaves. For each TLV type the place and the length of its value are
+-- one number. Assumes nothing.
+use Rattle.std.specs.Prelude.{ℕ, ◌+◌, ◌*◌, ◌/◌, ◌%◌, not, cond, List, [], ◌∷◌, eqb, get_or, replicate, Result, Ok, Err}
+use Rattle.wire.specs.declared.status.Refused.{Refused}
 use Rattle.message_rules.specs.declared.record.Field.{Field}
 use Rattle.message_rules.specs.declared.record.Message.{Message}
-use Rattle.message_reader.specs.declared.Answer.{Answer}
-use Rattle.message_reader.specs.declared.Answer.TheVariants as answer
+use Rattle.message_reader.specs.Reading.{Answer}
 
 -- 256 ^ 4: in a value's number the place has the low four bytes and the length the high ones, as both have four in the record
 abbrev pub high : ℕ
@@ -52,10 +51,10 @@ none = replicate 8 0
 
 -- the values of an answer: those of the record, and none of a refused message
 abbrev pub values_after : Answer → List ℕ
-values_after (answer.Accepted m) = values_of m
-values_after (answer.Refused st place) = none
+values_after (Ok m) = values_of m
+values_after (Err r) = none
 
--- an answer as one number: the status, and 256 times what goes with it, the command of an accepted message or the place of a refusal
-abbrev pub answer_number : Answer → ℕ
-answer_number (answer.Accepted m) = 256 * m.command
-answer_number (answer.Refused st place) = number_of st + 256 * place
+-- the command of an accepted message, or the refusal
+abbrev pub command_of : Answer → Result ℕ Refused
+command_of (Ok m) = Ok m.command
+command_of (Err r) = Err r

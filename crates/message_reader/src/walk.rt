@@ -1,18 +1,18 @@
-// The walk over a message: each TLV is checked, and its value is noted by its type. A value's place and length are one number, and so is the
-// answer: numbers that go from one function to another in a register, and into a record in one store.
+// The walk over a message: each TLV is checked, and its value is noted by its type. A value's place and length are one number, which goes into
+// a record in one store.
 ghost use Rattle.std.specs.Prelude.{◌≡◌, ◌+◌, ◌*◌, ◌≤◌, ◌<◌, length};
-ghost use Rattle.wire.specs.Status.{number_of};
+ghost use Rattle.wire.specs.Status.{refused_at};
 ghost use Rattle.message_rules.specs.Record.{empty_of};
 ghost use Rattle.message_reader.specs.Reading.{has_needed, is_complete, tlvs_from, read_message};
-ghost use Rattle.message_reader.specs.Values.{none, field_from, message_from, values_after, answer_number};
+ghost use Rattle.message_reader.specs.Values.{none, field_from, message_from, values_after, command_of};
 
 use crate::tlv::Tlv;
 use crate::{header, tlv};
 use message_rules::record::{Field, Message};
+use message_rules::role::Role;
 use message_rules::rules;
-use wire::number::u8_at;
-use wire::status;
-use wire::status::Status;
+use wire::number;
+use wire::status::{Refusal, Refused};
 
 // For each TLV type the number of its value, 0 where there is none.
 pub type Values = [u64; 8];
@@ -20,14 +20,13 @@ pub type Values = [u64; 8];
 // In a value's number the place has the low four bytes and the length the high ones: the length times this is added to the place.
 const HIGH: u64 = 4294967296;
 
-// The answer to a refused message, of which no value is left.
-fn refuse(values: &mut Values, status: Status, place: usize) -> u64
-    requires { place ≤ 65535 }
-    ensures answer { result ≡ number_of status + 256 * place }
+// The refusal of a message, of which no value is left.
+fn refuse(values: &mut Values, refusal: Refusal, place: usize) -> Refused
+    ensures answer { result ≡ refused_at refusal place }
     ensures values { values.new ≡ none }
 {
     *values = [0u64; 8];
-    status::number(status) as u64 + 256 * (place as u64)
+    Refused { refusal, place }
 }
 
 // Whether a type that the command needs is there.
@@ -35,62 +34,55 @@ fn has_needed(command: u8, kind: u8, values: &Values) -> bool
     requires { kind < 8 }
     ensures { result ≡ has_needed (message_from command values.now) kind }
 {
-    if rules::role(command, kind) != rules::NEEDED {
-        return true;
-    }
-    values[kind as usize] != 0
+    rules::role(command, kind) != Role::Needed || values[kind as usize] != 0
 }
 
 // Whether no TLV that the command needs is missing.
 fn is_complete(command: u8, values: &Values) -> bool
     ensures { result ≡ is_complete (message_from command values.now) }
 {
-    let mut kind: u8 = 0;
-    while kind < 8 {
+    for kind in 0..8 {
         if !has_needed(command, kind, values) {
             return false;
         }
-        kind += 1;
     }
     true
 }
 
-// The TLVs after the header, from left to right, and last whether one is missing. No value is noted yet.
-fn walk(bytes: &[u8], command: u8, values: &mut Values) -> u64
+// The TLVs after the header, from left to right, and last whether one is missing. No value is noted yet; the answer is the command.
+fn walk(bytes: &[u8], command: u8, values: &mut Values) -> Result<u8, Refused>
     requires { (length bytes.now ≤ 65535) × (values.old ≡ none) }
-    ensures answer { result ≡ answer_number (tlvs_from (length bytes.now) bytes.now 4 (empty_of command)) }
+    ensures answer { result ≡ command_of (tlvs_from (length bytes.now) bytes.now 4 (empty_of command)) }
     ensures values { values.new ≡ values_after (tlvs_from (length bytes.now) bytes.now 4 (empty_of command)) }
 {
     let mut at = 4;
+    // A turn goes on by as many bytes as the TLV has, which no iterator counts.
     while at < bytes.len() {
         match tlv::tlv_at(bytes, at, command, values) {
-            Tlv::Right { kind, len } => {
+            Ok(Tlv { kind, len }) => {
                 values[kind as usize] = (at + 3) as u64 + HIGH * (len as u64);
                 at = at + 3 + len;
             }
-            Tlv::Refused { status } => {
-                return refuse(values, status, at);
+            Err(refusal) => {
+                return Err(refuse(values, refusal, at));
             }
         }
     }
     if is_complete(command, values) {
-        return 256 * (command as u64);
+        return Ok(command);
     }
-    refuse(values, Status::TlvUnexpected, bytes.len())
+    Err(refuse(values, Refusal::TlvUnexpected, bytes.len()))
 }
 
-// The answer on a message, which is all of the lent bytes, as one number. For an accepted message `values` are those of its record, and its
-// command goes with the answer; a refused one leaves none.
-pub fn locate(bytes: &[u8], values: &mut Values) -> u64
-    ensures answer { result ≡ answer_number (read_message bytes.now) }
+// The command of a message, which is all of the lent bytes. For an accepted message `values` are those of its record; a refused one leaves
+// none.
+pub fn locate(bytes: &[u8], values: &mut Values) -> Result<u8, Refused>
+    ensures answer { result ≡ command_of (read_message bytes.now) }
     ensures values { values.new ≡ values_after (read_message bytes.now) }
 {
     *values = [0u64; 8];
-    let command = u8_at(bytes, 3);
-    let refusal = status::number(header::check(bytes, command));
-    if refusal != 0 {
-        return refusal as u64;
-    }
+    let command: u8 = number::read(bytes, 3);
+    header::check(bytes, command)?;
     walk(bytes, command, values)
 }
 

@@ -9,9 +9,9 @@ use Rattle.wire.specs.declared.written.Written.TheVariants as written
 use Rattle.wire.proofs.Laws.Below.{bytes_computed}
 use Rattle.wire.proofs.Laws.Bool.{not_both}
 use Rattle.message_rules.specs.declared.record.Message.{Message}
-use Rattle.message_rules.specs.Rules.{foreign, roles_of, role_of, lengths_of, length_in, length_ok, known_command}
+use Rattle.message_rules.specs.Rules.{foreign, needed, roles_of, role_of, lengths_of, length_in, length_ok, known_command}
 use Rattle.message_rules.specs.Record.{absent, field_of, with_field, empty_of, tlv_size, size_to}
-use Rattle.message_rules.proofs.Laws.Rules.{each_type}
+use Rattle.message_rules.proofs.Laws.Rules.{needed_own, each_type}
 use Rattle.message_rules.proofs.Laws.Record.{field_type}
 use Rattle.message_reader.specs.declared.Answer.TheVariants as answer
 use Rattle.message_reader.specs.Reading.{header_status, tlv_at, has_needed, is_complete, last_of, tlvs_from, read_message}
@@ -74,7 +74,7 @@ can_be_written (given.outside t p h) =
 can_be_written (given.value_length t p e) =
     only_token (λ u. length_ok u (field_of handshake_record u).len ≡ false → ⊥) (λ f. not_both true refl f) t p e
 can_be_written (given.no_command e) = not_both true refl e
-can_be_written (given.foreign_tlv t p e) = only_token (λ u. role_of 3 u ≡ foreign → ⊥) (λ f. omega arith) t p e
+can_be_written (given.foreign_tlv t p e) = only_token (λ u. role_of 3 u ≡ foreign → ⊥) (needed_own needed refl) t p e
 can_be_written (given.absent_tlv t p e) = not_both (field_of handshake_record t).present (complete t e) p
 can_be_written (given.too_long h) = omega arith
 

@@ -1,12 +1,12 @@
 -- What writing a record gives (01: "TLVs come .. by rising type when written"; "Any writer: 18, then 10"). Assumes nothing.
-use Rattle.std.specs.Prelude.{ℕ, zero, suc, ◌+◌, List, [], ◌∷◌, ◌++◌, Bool, cond, not, ◌&&◌, length, drop, ltb, leb, eqb}
+use Rattle.std.specs.Prelude.{ℕ, zero, suc, ◌+◌, List, [], ◌∷◌, ◌++◌, Bool, cond, not, ◌&&◌, length, drop, ltb, leb}
 use Rattle.wire.specs.Number.{bytes}
 use Rattle.wire.specs.declared.status.Status.TheVariants as status
 use Rattle.message_rules.specs.declared.record.Field.{Field}
 use Rattle.message_rules.specs.declared.record.Message.{Message}
 use Rattle.wire.specs.declared.written.Written.{Written}
 use Rattle.wire.specs.declared.written.Written.TheVariants as written
-use Rattle.message_rules.specs.Rules.{role_of, foreign, needed, length_ok, known_command}
+use Rattle.message_rules.specs.Rules.{role_of, foreign, needed, same_role, length_ok, known_command}
 use Rattle.wire.specs.Below.{all_below}
 use Rattle.message_rules.specs.Record.{field_of, value_of, size_to}
 
@@ -15,9 +15,9 @@ use Rattle.message_rules.specs.Record.{field_of, value_of, size_to}
 unfoldable pub field_ok : ℕ → Message → ℕ → Bool
 field_ok n m t =
     cond (field_of m t).present
-    (not (eqb (role_of m.command t) foreign)
+    (not (same_role (role_of m.command t) foreign)
     && (leb ((field_of m t).at + (field_of m t).len) n && length_ok t (field_of m t).len))
-    (not (eqb (role_of m.command t) needed))
+    (not (same_role (role_of m.command t) needed))
 
 -- 18 is not due: there is such a command, its TLVs are those of the command, each can be written, and Size holds the number of bytes
 unfoldable pub writable : ℕ → Message → Bool

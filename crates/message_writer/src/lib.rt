@@ -1,13 +1,14 @@
 // Writes a connection message from its record: the header, then its TLVs by rising type.
 #![tactic(auto)]
 
-ghost use Rattle.std.specs.Prelude.{◌≡◌, true, cond, ◌+◌, ◌≤◌, length};
+ghost use Rattle.std.specs.Prelude.{◌≡◌, true, cond, Some, None, ◌+◌, ◌≤◌, length};
 ghost use Rattle.wire.specs.Splice.{splice};
 ghost use Rattle.wire.specs.Below.{all_below};
 ghost use Rattle.message_rules.specs.Record.{size_to};
 ghost use Rattle.message_writer.specs.Writing.{field_ok, writable, tlv_bytes, body_to, head_bytes, write_answer, output};
 
 use message_rules::record::{Field, Message};
+use message_rules::role::Role;
 use message_rules::{record, rules};
 use scan::bytes;
 use wire::number::{put_u8, put_u16};
@@ -21,9 +22,9 @@ fn field_ok(n: usize, message: Message, kind: u8) -> bool
     let part = rules::role(message.command, kind);
     let value = record::field_of(message, kind);
     if !value.present {
-        return part != rules::NEEDED;
+        return part != Role::Needed;
     }
-    if part == rules::FOREIGN {
+    if part == Role::Foreign {
         return false;
     }
     let at = value.at as usize;
@@ -34,37 +35,35 @@ fn field_ok(n: usize, message: Message, kind: u8) -> bool
     rules::length_ok(kind, len)
 }
 
-// The size of the header and of the record's TLVs, or 0 where one of its fields can't be written.
-fn size_of_fields(n: usize, message: Message) -> usize
-    ensures { result ≡ cond (all_below 8 (field_ok n message)) (size_to message 8) 0 }
+// The size of the header and of the record's TLVs, if each of its fields can be written.
+fn size_of_fields(n: usize, message: Message) -> Option<usize>
+    ensures { result ≡ cond (all_below 8 (field_ok n message)) (Some (size_to message 8)) None }
 {
     let mut size: usize = 4;
-    let mut kind: u8 = 0;
-    while kind < 8 {
+    for kind in 0..8 {
         if !field_ok(n, message, kind) {
-            return 0;
+            return None;
         }
         let value = record::field_of(message, kind);
         if value.present {
             size = size + 3 + value.len as usize;
         }
-        kind += 1;
     }
-    size
+    Some(size)
 }
 
-// The size of the record's message, or 0 where it can't be written.
-fn size_of(n: usize, message: Message) -> usize
-    ensures { result ≡ cond (writable n message) (size_to message 8) 0 }
+// The size of the record's message, if it can be written.
+fn size_of(n: usize, message: Message) -> Option<usize>
+    ensures { result ≡ cond (writable n message) (Some (size_to message 8)) None }
 {
     if !rules::known_command(message.command) {
-        return 0;
+        return None;
     }
-    let size = size_of_fields(n, message);
+    let size = size_of_fields(n, message)?;
     if 65535 < size {
-        return 0;
+        return None;
     }
-    size
+    Some(size)
 }
 
 // Writes a TLV at `at`, and answers the place after it.
@@ -89,13 +88,11 @@ fn put_tlvs(bytes: &[u8], message: Message, out: &mut [u8])
     ensures { out.new ≡ splice 4 (body_to bytes.now message 8) out.old }
 {
     let mut at: usize = 4;
-    let mut kind: u8 = 0;
-    while kind < 8 {
+    for kind in 0..8 {
         let value = record::field_of(message, kind);
         if value.present {
             at = put_tlv(bytes, kind, value, out, at);
         }
-        kind += 1;
     }
 }
 
@@ -114,13 +111,12 @@ pub fn write(bytes: &[u8], message: Message, out: &mut [u8]) -> Written
     ensures answer { result ≡ write_answer bytes.now message out.old }
     ensures bytes { out.new ≡ output bytes.now message out.old }
 {
-    let size = size_of(bytes.len(), message);
-    if size == 0 {
+    let Some(size) = size_of(bytes.len(), message) else {
         return Written::Refused {
             status: Status::NotWritable,
             place: 0,
         };
-    }
+    };
     if out.len() < size {
         return Written::Refused {
             status: Status::NoRoom,

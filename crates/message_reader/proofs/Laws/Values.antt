@@ -6,16 +6,16 @@ use mathlib.Core.Bool.{true, false, not}
 use mathlib.Core.Logic.{⊎_elim}
 use native.Mathlib.Omega.{arith}
 use native.Mathlib.Decide.{dec_lt}
-use borrow.Author.Tests.{eq-eqb, ne_eqb, eqb-true}
+use borrow.Author.Tests.{ne_eqb, eqb-true}
 use lib.Dec.{eqb}
 use lib.ListN.{length, get_or, set, length-set, get_or-eq_default}
 use lib.Seq.{get_or-set_same, get_or-set_other, ext_get_or}
 use Rattle.wire.proofs.Laws.Bool.{either}
 use Rattle.message_rules.specs.declared.record.Field.{Field}
 use Rattle.message_rules.specs.declared.record.Message.{Message}
-use Rattle.message_rules.specs.Rules.{role_of, foreign, needed}
+use Rattle.message_rules.specs.Rules.{role_of, needed}
 use Rattle.message_rules.specs.Record.{field_of, with_field, empty_of}
-use Rattle.message_rules.proofs.Laws.Rules.{each_type, type_small, type_not_1}
+use Rattle.message_rules.proofs.Laws.Rules.{true_same_role, needed_own, each_type, type_small, type_not_1}
 use Rattle.message_rules.proofs.Laws.Record.{past, field_with}
 use Rattle.message_reader.specs.Reading.{has_needed}
 use Rattle.message_reader.specs.Values.{none, high, field_from, message_from, value_number, values_of}
@@ -126,5 +126,5 @@ module _ (c : ℕ) (values : List ℕ) (t : ℕ) (h : t < 8) (k : t ≡ 1 → �
 pub needed_found : (c : ℕ) (values : List ℕ) (t : ℕ) → role_of c t ≡ needed → has_needed (message_from c values) t ≡ not (eqb (get_or values t 0) 0)
 unfolding has_needed message_from
 needed_found c values t e =
-    let own : role_of c t ≡ foreign → ⊥ = λ f. omega arith in
-    simp (eq-eqb (role_of c t) needed e) (found c values t (type_small c t own) (type_not_1 c t own))
+    let own = needed_own (role_of c t) e in
+    simp (true_same_role (role_of c t) needed e) (found c values t (type_small c t own) (type_not_1 c t own))

@@ -5,17 +5,16 @@ use mathlib.Core.List.{List}
 use mathlib.Core.Bool.{true, false}
 use native.Mathlib.Omega.{arith}
 use lib.ListN.{length, set}
-use Rattle.wire.specs.declared.status.Status.{Status}
-use Rattle.wire.specs.declared.status.Status.TheVariants as status
+use Rattle.std.specs.Prelude.{Ok, Err}
+use Rattle.wire.specs.Status.{refused_at}
+use Rattle.wire.specs.declared.status.Refusal.{Refusal}
+use Rattle.wire.specs.declared.status.Refusal.TheVariants as refusal
 use Rattle.message_rules.specs.declared.record.Message.{Message}
 use Rattle.message_rules.specs.Record.{empty_of}
 use Rattle.message_rules.proofs.Laws.Rules.{type_small, type_not_1}
-use Rattle.message_reader.specs.declared.Answer.{Answer}
-use Rattle.message_reader.specs.declared.Answer.TheVariants as answer
-use Rattle.message_reader.specs.declared.tlv.Tlv.TheVariants as tlv
-use Rattle.message_reader.specs.Reading.{type_at, tlv_at, is_complete, last_of, tlvs_from}
+use Rattle.message_reader.specs.Reading.{Answer, type_at, tlv_at, is_complete, last_of, tlvs_from}
 use Rattle.message_reader.specs.Values.{none, high, message_from}
-use Rattle.message_reader.proofs.Laws.Reading.{OfTlv, of_tlv, tlvs_known, tlvs_refused, tlvs_end}
+use Rattle.message_reader.proofs.Laws.Reading.{OfTlv, tlv_of, of_tlv, tlvs_known, tlvs_refused, tlvs_end}
 use Rattle.message_reader.proofs.Laws.Values.{Eight, eight_none, none_found, eight_set, set_found, number_for}
 
 -- the answer on the TLVs of a message of command c
@@ -47,7 +46,7 @@ pub record Fits (s : List ℕ) (at t n : ℕ) : Type 0 where
   pub not_1 : t ≡ 1 → ⊥
   pub whole : at + 3 + n ≤ length s
 
-right_fits : (s : List ℕ) (at : ℕ) (m : Message) (t n : ℕ) → OfTlv s at m (tlv.Right t n) → Fits s at t n
+right_fits : (s : List ℕ) (at : ℕ) (m : Message) (t n : ℕ) → OfTlv s at m (Ok (tlv_of t n)) → Fits s at t n
 right_fits s at m t n p =
     let u = type_at s at in
     subst (λ (i : ℕ). Fits s at i n) (sym p.1)
@@ -58,7 +57,7 @@ right_fits s at m t n p =
     })
 
 module _ {s : List ℕ} {c at : ℕ} {values : List ℕ} (g : Walked s c at values) (h : at < length s) where
-  module _ (t n : ℕ) (e : tlv_at s at (message_from c values) ≡ tlv.Right t n) where
+  module _ (t n : ℕ) (e : tlv_at s at (message_from c values) ≡ Ok (tlv_of t n)) where
     pub walked_fits : Fits s at t n
     walked_fits = right_fits s at (message_from c values) t n (subst (OfTlv s at (message_from c values)) e (of_tlv s at (message_from c values)))
 
@@ -77,18 +76,18 @@ module _ {s : List ℕ} {c at : ℕ} {values : List ℕ} (g : Walked s c at valu
               ∙ q.3 ∙ g.rest;
         }
 
-  pub walked_refused : (st : Status) → tlv_at s at (message_from c values) ≡ tlv.Refused st → answer.Refused st at ≡ Whole s c
-  walked_refused st e = tlvs_refused g.steps s at (message_from c values) st h g.enough e ∙ g.rest
+  pub walked_refused : (r : Refusal) → tlv_at s at (message_from c values) ≡ Err r → Err (refused_at r at) ≡ Whole s c
+  walked_refused r e = tlvs_refused g.steps s at (message_from c values) r h g.enough e ∙ g.rest
 
 -- the end, with nothing missing, or with a TLV missing
 module _ {s : List ℕ} {c at : ℕ} {values : List ℕ} (g : Walked s c at values) (h : length s ≤ at) where
   last : last_of (length s) (message_from c values) ≡ Whole s c
   last = tlvs_end g.steps s at (message_from c values) h ∙ g.rest
 
-  pub walked_complete : is_complete (message_from c values) ≡ true → answer.Accepted (message_from c values) ≡ Whole s c
+  pub walked_complete : is_complete (message_from c values) ≡ true → Ok (message_from c values) ≡ Whole s c
   unfolding last_of
   walked_complete e = simp e at last
 
-  pub walked_missing : is_complete (message_from c values) ≡ false → answer.Refused status.TlvUnexpected (length s) ≡ Whole s c
+  pub walked_missing : is_complete (message_from c values) ≡ false → Err (refused_at refusal.TlvUnexpected (length s)) ≡ Whole s c
   unfolding last_of
   walked_missing e = simp e at last

@@ -27,7 +27,7 @@ use Rattle.message_reader.specs.Theorems.{Headed, RightTlv, Reached, AcceptedExa
 use Rattle.message_writer.specs.Theorems.{SameMessage, ReadsBack}
 use Rattle.message_reader.specs.Theorems as given
 use Rattle.wire.proofs.Laws.Bool.{either, by_test}
-use Rattle.message_rules.proofs.Laws.Rules.{type_small}
+use Rattle.message_rules.proofs.Laws.Rules.{needed_own, type_small}
 use Rattle.message_rules.proofs.Laws.Record.{field_same, field_other, field_empty, field_type, past, command_with, command_empty}
 use Rattle.message_reader.proofs.Laws.Reading.{accepted_exactly}
 use Rattle.message_rules.proofs.Laws.Size.{size_least, size_grows, size_there}
@@ -210,7 +210,7 @@ module _ (s : List ℕ) (m : Message) (w : writable (length s) m ≡ true) where
   complete : (t : ℕ) → role_of (placed_to m 8).command t ≡ needed → (field_of (placed_to m 8) t).present ≡ true
   complete t n =
       let c = rw (placed_command m 8) at n in
-      let h : t < 8 = type_small m.command t (λ e. omega arith) in
+      let h : t < 8 = type_small m.command t (needed_own (role_of m.command t) c) in
       ⊎_elim
       (λ (p : (field_of m t).present ≡ true). simp (placed_all m t, p))
       (λ (p : (field_of m t).present ≡ false). absurd (ok_absent (length s) m t (ok_below s m w t h) p c))

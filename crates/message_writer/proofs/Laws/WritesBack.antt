@@ -7,7 +7,7 @@ use mathlib.Core.List.{List, ◌++◌, append-nil, append_assoc}
 use mathlib.Core.Logic.{⊎_elim}
 use native.Mathlib.Omega.{arith}
 use native.Mathlib.Nat.{eq-or-lt_of_le}
-use borrow.Author.Tests.{le-leb, ne_eqb}
+use borrow.Author.Tests.{le-leb}
 use lib.ListN.{length, take, drop}
 use lib.Seq.{take-add, drop-cons, drop-drop, take-length}
 use Rattle.wire.specs.Number.{bytes, Bytes}
@@ -24,7 +24,7 @@ use Rattle.message_reader.specs.Theorems.{Headed, RightTlv, Reached, WellFormed,
 use Rattle.message_writer.specs.Theorems.{Rising, WritesBack}
 use Rattle.message_reader.specs.Theorems as given
 use Rattle.wire.proofs.Laws.Bool.{either, not_both}
-use Rattle.message_rules.proofs.Laws.Rules.{type_small, type_not_1}
+use Rattle.message_rules.proofs.Laws.Rules.{false_same_role, type_small, type_not_1}
 use Rattle.wire.proofs.Laws.Below.{all_below_lem}
 use Rattle.message_rules.proofs.Laws.Record.{field_same, field_other}
 use Rattle.message_reader.proofs.Laws.Reading.{accepted_exactly}
@@ -46,11 +46,11 @@ ok_field s m k t =
     let q = k.placed t p in
     simp (
       p,
-      ne_eqb r foreign q.expected,
+      false_same_role r foreign q.expected,
       le-leb (f.at + f.len) (length s) q.within,
       q.fitting,
     ))
-    (λ (p : f.present ≡ false). simp (p, ne_eqb r needed (λ e. not_both f.present (k.complete t e) p)))
+    (λ (p : f.present ≡ false). simp (p, false_same_role r needed (λ e. not_both f.present (k.complete t e) p)))
     (either f.present)
 
 accepted_writable : (s : List ℕ) (m : Message) → Bytes s → WellFormed s m → writable (length s) m ≡ true

@@ -1,38 +1,31 @@
 -- The tests are those of the definition. Assumes nothing.
-use Prim.Native.Nat.{ℕ, ◌≤◌, ◌<◌}
-use mathlib.Core.Path.{◌≡◌, refl}
-use mathlib.Core.Bool.{Bool, true, false, cond, ◌&&◌}
+use Prim.Native.Nat.{◌≤◌, ◌<◌}
+use mathlib.Core.Path.{sym, ap}
 use native.Mathlib.Omega.{arith}
 use borrow.Author.Tests.{le-leb, lt-leb}
-use lib.Dec.{leb}
-use Rattle.wire.specs.Below.{all_below}
+use Rattle.std.specs.Prelude.{Some}
+use Rattle.std.proofs.lemmas.Option.{cond_some}
 use Rattle.message_rules.specs.Record.{size_to}
-use Rattle.message_writer.specs.Writing.{field_ok, writable}
+use Rattle.message_writer.specs.Writing.{writable}
+use Rattle.message_writer.proofs.Laws.Writing.{no_size}
 use Rattle.message_writer.proofs.size_of.Goals as goal
-
--- a size that two bytes don't hold, and one that they hold
-above : (b : Bool) (x r : ℕ) → r ≡ cond b x 0 → 65535 < r → 0 ≡ cond (b && leb x 65535) x 0
-above true x r e h = simp (lt-leb x 65535 (omega arith))
-above false x r e h = refl
-
-held : (b : Bool) (x r : ℕ) → r ≡ cond b x 0 → r ≤ 65535 → r ≡ cond (b && leb x 65535) x 0
-held true x r e h = simp (le-leb x 65535 (omega arith)) e
-held false x r e h = e
 
 pub returns-then-not-known_command : goal.returns-then-not-known_command
 unfolding writable
 returns-then-not-known_command c = simp (← c.known_command.ensures, c.if-not-known_command.true)
 
+pub returns-in_err-size : goal.returns-in_err-size
+unfolding writable
+returns-in_err-size c = simp (← c.known_command.ensures, c.if-not-known_command.false, no_size _ _ c.in_err-size.ensures) c.from_residual.ensures
+
 pub returns-then-size-gt65535 : goal.returns-then-size-gt65535
 unfolding writable
-returns-then-size-gt65535 c = let z = c.size_of_fields-size in
-    let a = c.args in
-    simp (← c.known_command.ensures, c.if-not-known_command.false)
-    (above (all_below 8 (field_ok a.n a.message)) (size_to a.message 8) z.result z.ensures c.if-size-gt65535.true)
+returns-then-size-gt65535 c = let z = cond_some _ _ _ (sym c.in_ok-size.ensures) in
+    let above : 65535 < size_to c.args.message 8 = omega (arith, z.1, c.if-size-gt65535.true) in
+    simp (← c.known_command.ensures, c.if-not-known_command.false, z.0, lt-leb _ _ above)
 
 pub returns : goal.returns
 unfolding writable
-returns c = let z = c.size_of_fields-size in
-    let a = c.args in
-    simp (← c.known_command.ensures, c.if-not-known_command.false)
-    (held (all_below 8 (field_ok a.n a.message)) (size_to a.message 8) z.result z.ensures c.if-size-gt65535.false)
+returns c = let z = cond_some _ _ _ (sym c.in_ok-size.ensures) in
+    let held : size_to c.args.message 8 ≤ 65535 = omega (arith, z.1, c.if-size-gt65535.false) in
+    simp (← c.known_command.ensures, c.if-not-known_command.false, z.0, le-leb _ _ held) (ap Some (sym z.1))

@@ -1,11 +1,13 @@
 -- The rule of Size decides first, as in the order of checks. Assumes nothing.
-use mathlib.Core.Path.{sym, ◌∙◌}
+use mathlib.Core.Path.{sym, ap, ◌∙◌}
+use Rattle.std.specs.Prelude.{Err}
+use Rattle.std.proofs.lemmas.Result.{err_from_is_err_and}
 use Rattle.message_reader.proofs.Laws.Header.{size_declared, size_refused}
 use Rattle.message_reader.proofs.header.check.Goals as goal
 
 pub check_after_size-requires : goal.check_after_size-requires
-check_after_size-requires c = let d = size_declared _ _ (sym c.read_size.ensures ∙ c.in-Declared.is) in
-    (d.four, d.size, d.counted, c.requires)
+check_after_size-requires c = let d = size_declared _ _ (sym c.in_ok-size.ensures) in (d.four, d.size, d.counted, c.requires)
 
-pub returns-in-Refused : goal.returns-in-Refused
-returns-in-Refused c = (size_refused _ _ (sym c.read_size.ensures ∙ c.in-Refused.is)).0
+pub returns-in_err-size : goal.returns-in_err-size
+returns-in_err-size c = let e = err_from_is_err_and _ c.from_residual.ensures.1 in
+    e.1 ∙ ap Err e.2 ∙ (size_refused _ _ (sym c.in_err-size.ensures)).0

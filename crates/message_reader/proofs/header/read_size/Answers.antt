@@ -10,8 +10,8 @@ returns-then-bytes-lt4 c = simp (lt-ltb _ 4 c.if-bytes-lt4.true)
 
 pub returns-then-size-lt4 : goal.returns-then-size-lt4
 unfolding first_of read_size
-returns-then-size-lt4 c = simp (le-ltb _ 4 c.if-bytes-lt4.false, ← c.u16_at-size.ensures, lt-ltb _ 4 c.if-size-lt4.true)
+returns-then-size-lt4 c = simp (le-ltb _ 4 c.if-bytes-lt4.false, ← c.read-size.ensures, lt-ltb _ 4 c.if-size-lt4.true)
 
 pub returns : goal.returns
 unfolding first_of read_size
-returns c = simp (le-ltb _ 4 c.if-bytes-lt4.false, ← c.u16_at-size.ensures, le-ltb _ 4 c.if-size-lt4.false)
+returns c = simp (le-ltb _ 4 c.if-bytes-lt4.false, ← c.read-size.ensures, le-ltb _ 4 c.if-size-lt4.false)

@@ -1,53 +1,55 @@
 -- Each test gives the fault that it finds, and they all together a right TLV. Assumes nothing.
 use Prim.Native.Nat.{ℕ}
 use mathlib.Core.Path.{◌≡◌, sym, ap, ◌∙◌}
+use mathlib.Core.Bool.{false}
 use mathlib.Core.Logic.{inl, inr}
 use native.Mathlib.Omega.{arith}
-use Rattle.message_rules.specs.Rules.{role_of, foreign, length_ok}
-use Rattle.message_rules.proofs.Laws.Rules.{type_small, type_not_1}
-use Rattle.message_reader.specs.declared.tlv.Tlv.TheVariants as tlv
+use Rattle.message_rules.specs.declared.role.Role.{Role}
+use Rattle.message_rules.specs.Rules.{role_of, foreign, same_role, length_ok}
+use Rattle.message_rules.proofs.Laws.Rules.{same_role_true, same_role_false, type_small, type_not_1}
+use Rattle.std.specs.Prelude.{Ok}
 use Rattle.message_reader.specs.Reading.{type_at}
 use Rattle.message_reader.specs.Theorems as given
 use Rattle.message_reader.specs.Values.{message_from}
-use Rattle.message_reader.proofs.Laws.Reading.{tlv_taken, tlv_refused}
+use Rattle.message_reader.proofs.Laws.Reading.{tlv_of, tlv_taken, tlv_refused}
 use Rattle.message_reader.proofs.Laws.Values.{found_there, found_absent}
 use Rattle.message_reader.proofs.tlv.tlv_at.Goals as goal
 
 -- the type is one of the command's
-own : (command kind role : ℕ) → role ≡ role_of command kind → (role ≡ foreign → ⊥) → role_of command kind ≡ foreign → ⊥
-own command kind role e n f = n (e ∙ f)
+own : (command kind : ℕ) (part : Role) → part ≡ role_of command kind → same_role part foreign ≡ false → role_of command kind ≡ foreign → ⊥
+own command kind part e n f = same_role_false part foreign n (e ∙ f)
 
 pub returns-then-bytes-start : goal.returns-then-bytes-start
 returns-then-bytes-start c = sym (tlv_refused _ _ _ _ (given.truncated (inl (omega arith))))
 
 pub returns-then-bytes-start-2 : goal.returns-then-bytes-start-2
-returns-then-bytes-start-2 c = sym (tlv_refused _ _ _ _ (given.truncated (inr (omega (arith, c.u16_at-len.ensures)))))
+returns-then-bytes-start-2 c = sym (tlv_refused _ _ _ _ (given.truncated (inr (omega (arith, c.read-len.ensures)))))
 
-pub returns-then-role-eq-FOREIGN : goal.returns-then-role-eq-FOREIGN
+pub returns-then-eq : goal.returns-then-eq
 unfolding message_from
-returns-then-role-eq-FOREIGN c = sym (tlv_refused _ _ _ _ (given.unexpected (omega (arith, c.u16_at-len.ensures)) (sym c.role.ensures ∙ c.if-role-eq-FOREIGN.true)))
+returns-then-eq c = sym (tlv_refused _ _ _ _ (given.unexpected (omega (arith, c.read-len.ensures)) (sym c.role.ensures ∙ same_role_true _ _ (sym c.if-eq.ensures))))
 
 pub returns-then-not-length_ok : goal.returns-then-not-length_ok
 unfolding message_from
-returns-then-not-length_ok c = let u = c.u16_at-len in
-    sym (tlv_refused _ _ _ _ (given.length_wrong (omega (arith, u.ensures)) (own _ _ _ c.role.ensures c.if-role-eq-FOREIGN.false)
+returns-then-not-length_ok c = let u = c.read-len in
+    sym (tlv_refused _ _ _ _ (given.length_wrong (omega (arith, u.ensures)) (own _ _ _ c.role.ensures (sym c.if-eq.ensures))
     (ap (length_ok _) (sym u.ensures) ∙ sym c.length_ok.ensures ∙ c.if-not-length_ok.true)))
 
 pub returns-then-values-kind-ne0 : goal.returns-then-values-kind-ne0
 unfolding message_from
 returns-then-values-kind-ne0 c = let a = c.args in
-    let u = c.u16_at-len in
-    let o = own a.command (type_at a.bytes.now a.at) _ c.role.ensures c.if-role-eq-FOREIGN.false in
+    let u = c.read-len in
+    let o = own a.command (type_at a.bytes.now a.at) _ c.role.ensures (sym c.if-eq.ensures) in
     sym (tlv_refused _ _ _ _ (given.repeated (omega (arith, u.ensures)) o
     (ap (length_ok _) (sym u.ensures) ∙ sym c.length_ok.ensures ∙ c.if-not-length_ok.false)
     (found_there _ a.values.now _ (type_small _ _ o) (type_not_1 _ _ o) c.if-values-kind-ne0.true)))
 
 pub returns : goal.returns
 unfolding message_from
-returns c = let u = c.u16_at-len in
+returns c = let u = c.read-len in
     let a = c.args in
-    let o = own a.command (type_at a.bytes.now a.at) _ c.role.ensures c.if-role-eq-FOREIGN.false in
-    ap (tlv.Right (type_at a.bytes.now a.at)) u.ensures
+    let o = own a.command (type_at a.bytes.now a.at) _ c.role.ensures (sym c.if-eq.ensures) in
+    ap (λ (n : ℕ). Ok (tlv_of (type_at a.bytes.now a.at) n)) u.ensures
     ∙ sym (tlv_taken _ _ _ (record {
       whole = omega (arith, u.ensures);
       expected = o;
@@ -56,4 +58,4 @@ returns c = let u = c.u16_at-len in
     }))
 
 pub bounds-values-kind : goal.bounds-values-kind
-bounds-values-kind c = let a = c.args in type_small _ _ (own a.command (type_at a.bytes.now a.at) _ c.role.ensures c.if-role-eq-FOREIGN.false)
+bounds-values-kind c = let a = c.args in type_small _ _ (own a.command (type_at a.bytes.now a.at) _ c.role.ensures (sym c.if-eq.ensures))

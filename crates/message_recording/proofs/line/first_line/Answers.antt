@@ -14,21 +14,8 @@ pub returns-then-bytes-size : goal.returns-then-bytes-size
 returns-then-bytes-size c =
     sym (line_short _ (positive _ c.if-bytes-eq0.false) (let e = c.needed-size.ensures in let l = c.if-bytes-size.true in omega arith))
 
-pub returns-in_default : goal.returns-in_default
-returns-in_default c =
-    simp (
-      line_of_lem c.args.bytes.now (positive _ c.if-bytes-eq0.false),
-      ← c.needed-size.ensures,
-      ← c.read-answer.ensures,
-      c.status_at-refusal.ensures,
-      c.in_default.is,
-    )
+pub returns-in-Ok : goal.returns-in-Ok
+returns-in-Ok c = simp (line_of_lem c.args.bytes.now (positive _ c.if-bytes-eq0.false), ← c.needed-size.ensures, ← c.read.ensures, c.in-Ok.is)
 
-pub returns : goal.returns
-returns c =
-    simp (
-      line_of_lem c.args.bytes.now (positive _ c.if-bytes-eq0.false),
-      ← c.needed-size.ensures,
-      ← c.read-answer.ensures,
-      c.in-Accepted.is,
-    )
+pub returns-in-Err : goal.returns-in-Err
+returns-in-Err c = simp (line_of_lem c.args.bytes.now (positive _ c.if-bytes-eq0.false), ← c.needed-size.ensures, ← c.read.ensures, c.in-Err.is)
