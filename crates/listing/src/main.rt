@@ -92,7 +92,7 @@ fn show(rest: &[u8], out: &mut [u8], state: State) -> State
             state.from = state.from + size;
             state.place = std::num::wrapping_add_u64(state.place, size as u64);
         }
-        Line::Refused { status: _ } => {
+        Line::Refused { refusal: _ } => {
             state.verdict = Some(Verdict::Refused);
         }
         Line::End => {

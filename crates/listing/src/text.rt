@@ -3,7 +3,6 @@ ghost use Rattle.std.specs.Prelude.{◌+◌, ◌<◌, ◌≤◌, length};
 ghost use Rattle.listing.specs.Text.{Put, two_digits, decimal, message_text, refused_text, end_text, text_of};
 
 use message_recording::line::Line;
-use wire::status;
 
 // Puts `text` from `at` on, and answers the place after it.
 fn put(out: &mut [u8], at: usize, text: &[u8]) -> usize
@@ -110,7 +109,7 @@ pub(crate) fn put_line(out: &mut [u8], at: usize, place: u64, line: Line) -> usi
 {
     match line {
         Line::Message { command, size } => put_message(out, at, place, command, size),
-        Line::Refused { status } => put_refused(out, at, place, status::number(status)),
+        Line::Refused { refusal } => put_refused(out, at, place, refusal.number()),
         Line::End => put_end(out, at, place),
     }
 }

@@ -3,41 +3,32 @@
 #![tactic(auto)]
 
 use std::io;
-use wire::status::Status;
+use wire::status::Refusal;
+use wire::unsigned::Unsigned;
 use wire::{number, sequence, signed, status};
 
 // The numbers at one place: the place, then one, two and four bytes unsigned, two bytes signed.
 fn read_line(rt: &HostRuntime, at: usize) -> io::Result<()> {
     let bytes = b"\x80\x00\xff\xfe\x7f\x01\x1c";
-    let one = number::u8_at(bytes, at);
-    let two = number::u16_at(bytes, at);
-    let four = number::u32_at(bytes, at);
+    let one = number::read::<u8>(bytes, at);
+    let two = number::read::<u16>(bytes, at);
+    let four = number::read::<u32>(bytes, at);
     println!(rt; "read {at} {one} {two} {four} {}", signed::signed16(two))
 }
 
 // What a number written at one place leaves in four bytes of 9: the number of bytes written, the place, whether they fit, and the four.
-fn written_line(
-    rt: &HostRuntime,
-    size: u64,
-    at: usize,
-    fits: bool,
-    out: [u8; 4],
-) -> io::Result<()> {
+fn write_line<N: Unsigned>(rt: &HostRuntime, at: usize, v: N) -> io::Result<()> {
+    let mut out = [9; 4];
+    let fits = number::write(&mut out, at, v);
     let [a, b, c, d] = out;
-    println!(rt; "write {size} {at} {} {a} {b} {c} {d}", fits as u8)
+    println!(rt; "write {} {at} {} {a} {b} {c} {d}", N::WIDTH, fits as u8)
 }
 
 // FE, 1C44 and FFFFFFF6 (−10), each written at the place.
 fn write_lines(rt: &HostRuntime, at: usize) -> io::Result<()> {
-    let mut one = [9; 4];
-    let fits = number::put_u8(&mut one, at, 0xfe);
-    written_line(rt, 1, at, fits, one)?;
-    let mut two = [9; 4];
-    let fits = number::put_u16(&mut two, at, 0x1c44);
-    written_line(rt, 2, at, fits, two)?;
-    let mut four = [9; 4];
-    let fits = number::put_u32(&mut four, at, 0xfffffff6);
-    written_line(rt, 4, at, fits, four)
+    write_line(rt, at, 0xfe_u8)?;
+    write_line(rt, at, 0x1c44_u16)?;
+    write_line(rt, at, 0xfffffff6_u32)
 }
 
 // How many of all sequence numbers are newer than `last`.
@@ -59,29 +50,28 @@ fn newer_line(rt: &HostRuntime, known: bool, last: u16) -> io::Result<()> {
 }
 
 fn status_line(rt: &HostRuntime) -> io::Result<()> {
-    print!(rt; "status")?;
-    for each in [
-        Status::Accepted,
-        Status::Truncated,
-        Status::WrongSize,
-        Status::WrongHeader,
-        Status::UnknownKind,
-        Status::TlvTruncated,
-        Status::TlvLength,
-        Status::TlvRepeated,
-        Status::TlvUnexpected,
-        Status::OutsideImage,
-        Status::NoRoom,
-        Status::NotNewer,
-        Status::TotalDiffers,
-        Status::Conflict,
-        Status::UnexpectedEvent,
-        Status::OtherSource,
-        Status::NotGrammar,
-        Status::ImageNotHeld,
-        Status::NotWritable,
+    print!(rt; "status {}", status::number(Ok(())))?;
+    for refusal in [
+        Refusal::Truncated,
+        Refusal::WrongSize,
+        Refusal::WrongHeader,
+        Refusal::UnknownKind,
+        Refusal::TlvTruncated,
+        Refusal::TlvLength,
+        Refusal::TlvRepeated,
+        Refusal::TlvUnexpected,
+        Refusal::OutsideImage,
+        Refusal::NoRoom,
+        Refusal::NotNewer,
+        Refusal::TotalDiffers,
+        Refusal::Conflict,
+        Refusal::UnexpectedEvent,
+        Refusal::OtherSource,
+        Refusal::NotGrammar,
+        Refusal::ImageNotHeld,
+        Refusal::NotWritable,
     ] {
-        print!(rt; " {}", status::number(each))?;
+        print!(rt; " {}", status::number(Err(refusal)))?;
     }
     println!(rt; "")
 }
