@@ -45,37 +45,6 @@ struct State {
     verdict: Option<Verdict>,
 }
 
-// Reads once, after the bytes that are not listed yet, which are moved to the buffer's front. They leave room, so that a read of no bytes is
-// the end of the recording.
-fn read_more<R: Read>(
-    rt: &HostRuntime,
-    input: &mut R,
-    path: &str,
-    buf: &mut [u8],
-    state: State,
-) -> State
-    requires window { (state.from ≤ state.to) × (state.to ≤ length buf.old) }
-    requires room { state.to < state.from + length buf.old }
-    ensures window { (result.from ≤ result.to) × (result.to ≤ length buf.new) × (result.used ≡ state.used) × (result.place ≡ state.place) }
-    ensures kept { take (state.to - state.from) (drop result.from buf.new) ≡ take (state.to - state.from) (drop state.from buf.old) }
-{
-    let mut state = state;
-    let kept = buffer::move_to_front(buf, state.from, state.to);
-    state.from = 0;
-    state.to = kept;
-    match input.read(&mut buf[kept..]) {
-        Err(error) => {
-            print::failed(rt, path, error);
-            state.verdict = Some(Verdict::Failed);
-        }
-        Ok(more) => {
-            state.to = kept + more;
-            state.ended = more == 0;
-        }
-    }
-    state
-}
-
 // Puts the line of the bytes that are not listed yet, and goes on after a message. (A place of 64 bits does not wrap: no file is as long.)
 fn show(rest: &[u8], out: &mut [u8], state: State) -> State
     requires { (state.from + length rest.now ≡ state.to) × (state.used + 64 ≤ length out.old) }
@@ -146,87 +115,112 @@ fn unwritten(rt: &HostRuntime, error: io::Error) -> Verdict
     Verdict::Failed
 }
 
-// Writes the lines that are there. Where that fails, the verdict is no longer what the lines say.
-fn write_lines(rt: &HostRuntime, out: &[u8], state: State) -> State
-    requires { state.used ≤ length out.now }
-    ensures kept { (result.from ≡ state.from) × (result.to ≡ state.to) × (result.used ≡ 0) }
-    ensures verdict { (result.verdict ≡ state.verdict) ⊎ IsSomeAnd result.verdict (λ verdict. 2 ≤ verdict_number verdict) }
-{
-    let mut state = state;
-    let used = state.used;
-    if let Err(error) = rt.write_all(&out[..used]) {
-        state.verdict = Some(unwritten(rt, error));
-    }
-    state.used = 0;
-    state
-}
-
-// Puts the lines that are decided, and writes them: before they leave no room for the next, and before a read, which may have to wait for
-// more of a pipe. Where there are none, and it goes on, reads once.
-fn step<R: Read>(
-    rt: &HostRuntime,
-    input: &mut R,
-    path: &str,
-    buf: &mut [u8],
-    out: &mut [u8],
+// A recording that is listed: where it is read, the bytes that are read and not listed yet, and the lines that are not written yet.
+#[derive(Drop)]
+struct Listing<'a, R> {
+    rt: &'a HostRuntime,
+    path: &'a str,
+    input: &'a mut R,
+    buf: [u8; 65536],
+    out: [u8; 65536],
     state: State,
-) -> State
-    requires { Within buf.old out.old state }
-    ensures { Within buf.new out.new result }
-{
-    let state = show_lines(buf, out, state);
-    if state.used > 0 {
-        return write_lines(rt, out, state);
-    }
-    if state.verdict.is_some() {
-        return state;
-    }
-    read_more(rt, input, path, buf, state)
 }
 
-// Lists the recording, and answers the verdict. A proved loop has to end, and nothing says that a file does: no run uses the turns up.
-fn list<R: Read>(
-    rt: &HostRuntime,
-    input: &mut R,
-    path: &str,
-    buf: &mut [u8],
-    out: &mut [u8],
-) -> Verdict
-    requires buffer { 65536 ≤ length buf.old }
-    requires output { 64 ≤ length out.old }
-{
-    let mut state = State {
-        from: 0,
-        to: 0,
-        place: 0,
-        used: 0,
-        ended: false,
-        verdict: None,
-    };
-    for _ in 0..u64::MAX {
-        if state.verdict.is_some() {
-            break;
+impl<'a, R: Read> Listing<'a, R> {
+    fn new(rt: &'a HostRuntime, path: &'a str, input: &'a mut R) -> Listing<'a, R>
+        ensures { Within result.buf result.out result.state }
+    {
+        Listing {
+            rt,
+            path,
+            input,
+            buf: [0; 65536],
+            out: [0; 65536],
+            state: State {
+                from: 0,
+                to: 0,
+                place: 0,
+                used: 0,
+                ended: false,
+                verdict: None,
+            },
         }
-        state = step(rt, input, path, buf, out, state);
     }
-    let state = write_lines(rt, out, state);
-    state.verdict.unwrap_or(Verdict::Failed)
-}
 
-// Lists a recording that is open, and answers the verdict.
-fn list_open<R: Read>(rt: &HostRuntime, input: &mut R, path: &str) -> Verdict {
-    let mut buf = [0u8; 65536];
-    let mut out = [0u8; 65536];
-    list(rt, input, path, &mut buf, &mut out)
+    // Reads once, after the bytes that are not listed yet, which are moved to the buffer's front. They leave room, so that a read of no bytes
+    // is the end of the recording.
+    fn read_more(&mut self)
+        requires window { (self.old.state.from ≤ self.old.state.to) × (self.old.state.to ≤ length self.old.buf) }
+        requires room { self.old.state.to < self.old.state.from + length self.old.buf }
+        ensures window { (self.new.state.from ≤ self.new.state.to) × (self.new.state.to ≤ length self.new.buf) × (self.new.state.used ≡ self.old.state.used) × (self.new.state.place ≡ self.old.state.place) }
+        ensures kept { take (self.old.state.to - self.old.state.from) (drop self.new.state.from self.new.buf) ≡ take (self.old.state.to - self.old.state.from) (drop self.old.state.from self.old.buf) }
+        ensures lines { (self.new.out ≡ self.old.out) × (length self.new.buf ≡ length self.old.buf) }
+    {
+        let kept = buffer::move_to_front(&mut self.buf, self.state.from, self.state.to);
+        self.state.from = 0;
+        self.state.to = kept;
+        match self.input.read(&mut self.buf[kept..]) {
+            Err(error) => {
+                print::failed(self.rt, self.path, error);
+                self.state.verdict = Some(Verdict::Failed);
+            }
+            Ok(more) => {
+                self.state.to = kept + more;
+                self.state.ended = more == 0;
+            }
+        }
+    }
+
+    // Writes the lines that are there. Where that fails, the verdict is no longer what the lines say.
+    fn write_lines(&mut self)
+        requires { self.old.state.used ≤ length self.old.out }
+        ensures kept { (self.new.state.from ≡ self.old.state.from) × (self.new.state.to ≡ self.old.state.to) × (self.new.state.used ≡ 0) }
+        ensures verdict { (self.new.state.verdict ≡ self.old.state.verdict) ⊎ IsSomeAnd self.new.state.verdict (λ verdict. 2 ≤ verdict_number verdict) }
+        ensures bytes { (self.new.buf ≡ self.old.buf) × (self.new.out ≡ self.old.out) }
+    {
+        let used = self.state.used;
+        if let Err(error) = self.rt.write_all(&self.out[..used]) {
+            self.state.verdict = Some(unwritten(self.rt, error));
+        }
+        self.state.used = 0;
+    }
+
+    // Puts the lines that are decided, and writes them: before they leave no room for the next, and before a read, which may have to wait
+    // for more of a pipe. Where there are none, and there is no verdict yet, reads once.
+    fn step(&mut self)
+        requires { Within self.old.buf self.old.out self.old.state }
+        ensures { Within self.new.buf self.new.out self.new.state }
+    {
+        self.state = show_lines(&self.buf, &mut self.out, self.state);
+        if self.state.used > 0 {
+            self.write_lines();
+        } else if self.state.verdict.is_none() {
+            self.read_more();
+        }
+    }
+
+    // Lists the recording, and answers the verdict. A proved loop has to end, and nothing says that a file does: no run uses the turns up.
+    fn list(&mut self) -> Verdict
+        requires { Within self.old.buf self.old.out self.old.state }
+    {
+        for _ in 0..u64::MAX {
+            if self.state.verdict.is_some() {
+                break;
+            }
+            self.step();
+        }
+        self.write_lines();
+        self.state.verdict.unwrap_or(Verdict::Failed)
+    }
 }
 
 // Lists the file of that name, or standard input for `-`, and answers the verdict.
 fn list_file(rt: &HostRuntime, path: &str) -> Verdict {
     if path == "-" {
-        return list_open(rt, &mut rt.stdin(), path);
+        return Listing::new(rt, path, &mut rt.stdin()).list();
     }
     match fs::open(rt, path) {
-        Ok(mut file) => list_open(rt, &mut file, path),
+        Ok(mut file) => Listing::new(rt, path, &mut file).list(),
         Err(error) => {
             print::failed(rt, path, error);
             Verdict::Failed
