@@ -124,12 +124,11 @@ struct Listing<'a, R> {
     buf: [u8; 65536],
     out: [u8; 65536],
     state: State,
+    ghost within: { Within buf out state },
 }
 
 impl<'a, R: Read> Listing<'a, R> {
-    fn new(rt: &'a HostRuntime, path: &'a str, input: &'a mut R) -> Listing<'a, R>
-        ensures { Within result.buf result.out result.state }
-    {
+    fn new(rt: &'a HostRuntime, path: &'a str, input: &'a mut R) -> Listing<'a, R> {
         Listing {
             rt,
             path,
@@ -150,8 +149,7 @@ impl<'a, R: Read> Listing<'a, R> {
     // Reads once, after the bytes that are not listed yet, which are moved to the buffer's front. They leave room, so that a read of no bytes
     // is the end of the recording.
     fn read_more(&mut self)
-        requires window { (self.old.state.from ≤ self.old.state.to) × (self.old.state.to ≤ length self.old.buf) }
-        requires room { self.old.state.to < self.old.state.from + length self.old.buf }
+        requires { self.old.state.to < self.old.state.from + length self.old.buf }
         ensures window { (self.new.state.from ≤ self.new.state.to) × (self.new.state.to ≤ length self.new.buf) × (self.new.state.used ≡ self.old.state.used) × (self.new.state.place ≡ self.old.state.place) }
         ensures kept { take (self.old.state.to - self.old.state.from) (drop self.new.state.from self.new.buf) ≡ take (self.old.state.to - self.old.state.from) (drop self.old.state.from self.old.buf) }
         ensures lines { (self.new.out ≡ self.old.out) × (length self.new.buf ≡ length self.old.buf) }
@@ -173,7 +171,6 @@ impl<'a, R: Read> Listing<'a, R> {
 
     // Writes the lines that are there. Where that fails, the verdict is no longer what the lines say.
     fn write_lines(&mut self)
-        requires { self.old.state.used ≤ length self.old.out }
         ensures kept { (self.new.state.from ≡ self.old.state.from) × (self.new.state.to ≡ self.old.state.to) × (self.new.state.used ≡ 0) }
         ensures verdict { (self.new.state.verdict ≡ self.old.state.verdict) ⊎ IsSomeAnd self.new.state.verdict (λ verdict. 2 ≤ verdict_number verdict) }
         ensures bytes { (self.new.buf ≡ self.old.buf) × (self.new.out ≡ self.old.out) }
@@ -187,10 +184,7 @@ impl<'a, R: Read> Listing<'a, R> {
 
     // Puts the lines that are decided, and writes them: before they leave no room for the next, and before a read, which may have to wait
     // for more of a pipe. Where there are none, and there is no verdict yet, reads once.
-    fn step(&mut self)
-        requires { Within self.old.buf self.old.out self.old.state }
-        ensures { Within self.new.buf self.new.out self.new.state }
-    {
+    fn step(&mut self) {
         self.state = show_lines(&self.buf, &mut self.out, self.state);
         if self.state.used > 0 {
             self.write_lines();
@@ -200,9 +194,7 @@ impl<'a, R: Read> Listing<'a, R> {
     }
 
     // Lists the recording, and answers the verdict. A proved loop has to end, and nothing says that a file does: no run uses the turns up.
-    fn list(&mut self) -> Verdict
-        requires { Within self.old.buf self.old.out self.old.state }
-    {
+    fn list(&mut self) -> Verdict {
         for _ in 0..u64::MAX {
             if self.state.verdict.is_some() {
                 break;

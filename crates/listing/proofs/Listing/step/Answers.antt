@@ -7,10 +7,4 @@ pub read_more-requires : goal.read_more-requires
 read_more-requires g c =
     let w = c.show_lines-self.ensures.within in
     let e = c.show_lines-self.ensures.all (c.is_none.ensures ∙ ap not c.if-is_none.true) (omega (arith, w.room)) in
-    record { window = (w.ordered, w.inside); room = undecided_room _ _ c.show_lines-self.result w (λ i. search rules) e }
-
-pub returns-then-is_none : goal.returns-then-is_none
-returns-then-is_none g c =
-    let w = c.show_lines-self.ensures.within in
-    let r = c.read_more.ensures in
-    record { ordered = r.window.0; inside = r.window.1; large = omega (arith, r.lines.1, w.large); fits = rw r.lines.0 (omega (arith, w.fits, r.window.2)); room = rw r.lines.0 w.room }
+    undecided_room _ _ c.show_lines-self.result w (λ i. search rules) e
