@@ -1,6 +1,6 @@
 -- Lines as 01 prints them, computed. Assumes nothing.
 use Rattle.std.specs.Prelude.{◌≡◌, [], ◌∷◌, refl}
-use Rattle.wire.specs.declared.status.Status.TheVariants as status
+use Rattle.wire.specs.declared.status.Refusal.TheVariants as refusal
 use Rattle.message_recording.specs.declared.line.Line.TheVariants as line
 use Rattle.listing.specs.Text.{decimal_to, decimal, text_of}
 
@@ -10,7 +10,7 @@ unfolding decimal decimal_to
 message = refl
 
 -- `61 refused 1`
-pub refused : text_of 61 (line.Refused status.Truncated) ≡ 54 ∷ 49 ∷ 32 ∷ 114 ∷ 101 ∷ 102 ∷ 117 ∷ 115 ∷ 101 ∷ 100 ∷ 32 ∷ 49 ∷ 10 ∷ []
+pub refused : text_of 61 (line.Refused refusal.Truncated) ≡ 54 ∷ 49 ∷ 32 ∷ 114 ∷ 101 ∷ 102 ∷ 117 ∷ 115 ∷ 101 ∷ 100 ∷ 32 ∷ 49 ∷ 10 ∷ []
 unfolding decimal decimal_to
 refused = refl
 

@@ -1,3 +1,4 @@
-pub mod Text
-pub mod State
 pub mod Examples
+pub mod State
+pub mod Text
+pub mod Verdict

@@ -1,10 +1,11 @@
 -- Where the listing stands. Assumes nothing.
-use Rattle.std.specs.Prelude.{◌≡◌, ℕ, ◌+◌, ◌-◌, ◌%◌, ◌^◌, ◌≤◌, Bool, true, false, cond, List, [], ◌++◌, length, take, drop, nat_le}
+use Rattle.std.specs.Prelude.{◌≡◌, ℕ, ◌+◌, ◌-◌, ◌%◌, ◌^◌, ◌≤◌, Bool, true, false, cond, List, [], ◌++◌, length, take, drop, nat_le, Some, is_some}
 use Rattle.message_recording.specs.Cut.{needed_of}
 use Rattle.message_recording.specs.Line.{line_of}
 use Rattle.message_recording.specs.declared.line.Line.{Line}
 use Rattle.message_recording.specs.declared.line.Line.TheVariants as line
 use Rattle.listing.specs.declared.State.{State}
+use Rattle.listing.specs.declared.Verdict.TheVariants as verdict
 use Rattle.listing.specs.Text.{Put, text_of}
 
 -- what is read and not listed lies in the buffer, which has room for the largest message and more, and what is to be written in the output,
@@ -16,21 +17,14 @@ pub record Within (buf out : List ℕ) (st : State) : Type 0 where
   pub fits : st.used ≤ length out
   pub room : 64 ≤ length out
 
--- the verdicts that lines give: the recording is whole; a message of it was refused
-abbrev pub whole_verdict : ℕ
-whole_verdict = 0
-
-abbrev pub refused_verdict : ℕ
-refused_verdict = 1
-
--- after a line, with `used` bytes of lines: on after a message, and no further after a refusal or the end
+-- after a line, with `used` bytes of lines: on after a message, and no further, with a verdict, after a refusal or the end
 abbrev pub state_after : State → Line → ℕ → State
 state_after st (line.Message c n) used =
-    record { from = st.from + n; to = st.to; place = (st.place + n) % 2 ^ 64; used = used; ended = st.ended; going = st.going; verdict = st.verdict }
+    record { from = st.from + n; to = st.to; place = (st.place + n) % 2 ^ 64; used = used; ended = st.ended; verdict = st.verdict }
 state_after st (line.Refused status) used =
-    record { from = st.from; to = st.to; place = st.place; used = used; ended = st.ended; going = false; verdict = refused_verdict }
+    record { from = st.from; to = st.to; place = st.place; used = used; ended = st.ended; verdict = Some verdict.Refused }
 state_after st line.End used =
-    record { from = st.from; to = st.to; place = st.place; used = used; ended = st.ended; going = false; verdict = whole_verdict }
+    record { from = st.from; to = st.to; place = st.place; used = used; ended = st.ended; verdict = Some verdict.Whole }
 
 -- the bytes s from one place on decide its line: they are as many as it needs, or no more follow
 abbrev pub decided : Bool → List ℕ → Bool
@@ -53,6 +47,6 @@ pub record Lines (buf before : List ℕ) (st r : State) (out : List ℕ) : Type 
   pub shown : Shown buf st text r
   pub put : Put before st.used text r.used out
 
--- all lines are shown for now: where it goes on and there is room for one more line, the bytes that are not listed yet decide none
+-- all lines are shown for now: where there is no verdict yet and there is room for one more line, the bytes that are not listed yet decide none
 abbrev pub AllShown : List ℕ → List ℕ → State → Type 0
-AllShown buf out st = st.going ≡ true → st.used + 64 ≤ length out → decided st.ended (unlisted buf st) ≡ false
+AllShown buf out st = is_some st.verdict ≡ false → st.used + 64 ≤ length out → decided st.ended (unlisted buf st) ≡ false

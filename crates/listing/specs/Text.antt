@@ -1,6 +1,6 @@
 -- The text of a line, in ASCII (01, "Session listing"). Assumes nothing.
 use Rattle.std.specs.Prelude.{◌≡◌, ℕ, zero, suc, ◌+◌, ◌/◌, ◌%◌, cond, List, [], ◌∷◌, ◌++◌, length, take, nat_lt}
-use Rattle.wire.specs.Status.{number_of}
+use Rattle.wire.specs.Status.{refusal_number}
 use Rattle.message_recording.specs.declared.line.Line.{Line}
 use Rattle.message_recording.specs.declared.line.Line.TheVariants as line
 
@@ -43,7 +43,7 @@ end_text place = (end_word ++ decimal place) ++ newline
 -- "its place in the file, command, size"; at a refusal its place and number; at the end the number of bytes
 abbrev pub text_of : ℕ → Line → List ℕ
 text_of place (line.Message c n) = message_text place c n
-text_of place (line.Refused st) = refused_text place (number_of st)
+text_of place (line.Refused refusal) = refused_text place (refusal_number refusal)
 text_of place line.End = end_text place
 
 -- `text` was put after the first `at` of the bytes `before`, and r is the place after it

@@ -7,13 +7,9 @@ pub(crate) fn move_to_front(buf: &mut [u8], from: usize, to: usize) -> usize
     ensures count { result ≡ to - from }
     ensures bytes { take result buf.new ≡ take result (drop from buf.old) }
 {
-    let mut k = 0;
     if from == 0 {
         return to;
     }
-    while k < to - from {
-        buf[k] = buf[from + k];
-        k += 1;
-    }
-    k
+    buf.copy_within(from..to, 0);
+    to - from
 }

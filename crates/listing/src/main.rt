@@ -6,10 +6,11 @@
 mod buffer;
 mod text;
 
-ghost use Rattle.std.specs.Prelude.{◌≡◌, ◌+◌, ◌-◌, ◌<◌, ◌≤◌, ◌⊎◌, length, take, drop};
+ghost use Rattle.std.specs.Prelude.{◌≡◌, ◌+◌, ◌-◌, ◌<◌, ◌≤◌, ◌⊎◌, length, take, drop, IsSomeAnd};
 ghost use Rattle.message_recording.specs.Line.{line_of};
 ghost use Rattle.listing.specs.State.{Within, Lines, AllShown, decided, state_after};
 ghost use Rattle.listing.specs.Text.{Put, text_of};
+ghost use Rattle.listing.specs.Verdict.{verdict_number};
 
 use message_recording::cut::needed;
 use message_recording::line::{Line, first_line};
@@ -18,21 +19,22 @@ use std::env::{Env, FillError};
 use std::io::{Eprint, ErrorKind, Print, Read, Write};
 use std::{fs, io};
 
-// The verdicts are exit statuses. The recording is whole.
-const WHOLE: u8 = 0;
-
-// A message was refused.
-const REFUSED: u8 = 1;
-
-// The recording was not read to its end, or its lines were not written.
-const FAILED: u8 = 2;
-
-// What read the lines has ended: the status that a shell shows for SIGPIPE.
-const UNREAD: u8 = 141;
+// What the launcher's exit status says of a recording, by its number.
+#[derive(Clone, Copy)]
+enum Verdict {
+    // The recording is whole.
+    Whole = 0,
+    // A message was refused.
+    Refused = 1,
+    // The recording was not read to its end, or its lines were not written.
+    Failed = 2,
+    // What read the lines has ended: the status that a shell shows for SIGPIPE.
+    Unread = 141,
+}
 
 // Where the listing stands. Of the buffer's bytes, those from `from` to `to` are read and not listed yet; the first of them is at `place` of
-// the recording, and once the recording has `ended` no more follow. Of the lines, `used` bytes are not written yet. `going` is false after
-// the last line, and after an error. The `verdict` counts once it is.
+// the recording, and once the recording has `ended` no more follow. Of the lines, `used` bytes are not written yet. There is a verdict after
+// the last line, and after an error.
 #[derive(Clone, Copy)]
 struct State {
     from: usize,
@@ -40,39 +42,7 @@ struct State {
     place: u64,
     used: usize,
     ended: bool,
-    going: bool,
-    verdict: u8,
-}
-
-// Reads once, after the bytes that are not listed yet, which are moved to the buffer's front. They leave room, so that a read of no bytes is
-// the end of the recording.
-fn read_more<R: Read>(
-    rt: &HostRuntime,
-    input: &mut R,
-    path: &str,
-    buf: &mut [u8],
-    state: State,
-) -> State
-    requires window { (state.from ≤ state.to) × (state.to ≤ length buf.old) }
-    requires room { state.to < state.from + length buf.old }
-    ensures window { (result.from ≤ result.to) × (result.to ≤ length buf.new) × (result.used ≡ state.used) × (result.place ≡ state.place) }
-    ensures kept { take (state.to - state.from) (drop result.from buf.new) ≡ take (state.to - state.from) (drop state.from buf.old) }
-{
-    let mut state = state;
-    let kept = buffer::move_to_front(buf, state.from, state.to);
-    state.from = 0;
-    state.to = kept;
-    match input.read(&mut buf[kept..]) {
-        Err(error) => {
-            print::failed(rt, path, error);
-            state.going = false;
-        }
-        Ok(more) => {
-            state.to = kept + more;
-            state.ended = more == 0;
-        }
-    }
-    state
+    verdict: Option<Verdict>,
 }
 
 // Puts the line of the bytes that are not listed yet, and goes on after a message. (A place of 64 bits does not wrap: no file is as long.)
@@ -91,13 +61,11 @@ fn show(rest: &[u8], out: &mut [u8], state: State) -> State
             state.from = state.from + size;
             state.place = std::num::wrapping_add_u64(state.place, size as u64);
         }
-        Line::Refused { status: _ } => {
-            state.going = false;
-            state.verdict = REFUSED;
+        Line::Refused { refusal: _ } => {
+            state.verdict = Some(Verdict::Refused);
         }
         Line::End => {
-            state.going = false;
-            state.verdict = WHOLE;
+            state.verdict = Some(Verdict::Whole);
         }
     }
     state
@@ -121,7 +89,7 @@ fn show_lines(buf: &[u8], out: &mut [u8], state: State) -> State
     ensures all { AllShown buf.now out.new result }
 {
     let mut state = state;
-    while state.going {
+    while state.verdict.is_none() {
         if out.len() - state.used < 64 {
             return state;
         }
@@ -137,108 +105,135 @@ fn show_lines(buf: &[u8], out: &mut [u8], state: State) -> State
 }
 
 // Says why the lines can't be written, and answers the verdict. Where nobody reads them any more, as after `| head -1`, nothing is wrong.
-fn unwritten(rt: &HostRuntime, error: io::Error) -> u8
-    ensures { 2 ≤ result }
+fn unwritten(rt: &HostRuntime, error: io::Error) -> Verdict
+    ensures { 2 ≤ verdict_number result }
 {
     if error.kind() == ErrorKind::BrokenPipe {
-        return UNREAD;
+        return Verdict::Unread;
     }
     print::failed(rt, "standard output", error);
-    FAILED
+    Verdict::Failed
 }
 
-// Writes the lines that are there. Where that fails, the verdict is no longer what the lines say.
-fn write_lines(rt: &HostRuntime, out: &[u8], state: State) -> State
-    requires { state.used ≤ length out.now }
-    ensures kept { (result.from ≡ state.from) × (result.to ≡ state.to) × (result.used ≡ 0) }
-    ensures verdict { (result.verdict ≡ state.verdict) ⊎ (2 ≤ result.verdict) }
-{
-    let mut state = state;
-    let used = state.used;
-    if let Err(error) = rt.write_all(&out[..used]) {
-        state.going = false;
-        state.verdict = unwritten(rt, error);
-    }
-    state.used = 0;
-    state
-}
-
-// Puts the lines that are decided, and writes them: before they leave no room for the next, and before a read, which may have to wait for
-// more of a pipe. Where there are none, and it goes on, reads once.
-fn step<R: Read>(
-    rt: &HostRuntime,
-    input: &mut R,
-    path: &str,
-    buf: &mut [u8],
-    out: &mut [u8],
+// A recording that is listed: where it is read, the bytes that are read and not listed yet, and the lines that are not written yet.
+#[derive(Drop)]
+struct Listing<'a, R> {
+    rt: &'a HostRuntime,
+    path: &'a str,
+    input: &'a mut R,
+    buf: [u8; 65536],
+    out: [u8; 65536],
     state: State,
-) -> State
-    requires { Within buf.old out.old state }
-    ensures { Within buf.new out.new result }
-{
-    let state = show_lines(buf, out, state);
-    if state.used > 0 {
-        return write_lines(rt, out, state);
-    }
-    if !state.going {
-        return state;
-    }
-    read_more(rt, input, path, buf, state)
+    ghost within: { Within buf out state },
 }
 
-// Lists the recording, and answers the verdict. A proved loop has to end, and nothing says that a file does. So the loop counts its turns
-// down, from a number that no run uses up.
-fn list<R: Read>(rt: &HostRuntime, input: &mut R, path: &str, buf: &mut [u8], out: &mut [u8]) -> u8
-    requires buffer { 65536 ≤ length buf.old }
-    requires output { 64 ≤ length out.old }
-{
-    let mut state = State {
-        from: 0,
-        to: 0,
-        place: 0,
-        used: 0,
-        ended: false,
-        going: true,
-        verdict: FAILED,
-    };
-    let mut turns = u64::MAX;
-    while turns > 0 && state.going {
-        state = step(rt, input, path, buf, out, state);
-        turns -= 1;
+impl<'a, R: Read> Listing<'a, R> {
+    fn new(rt: &'a HostRuntime, path: &'a str, input: &'a mut R) -> Listing<'a, R> {
+        Listing {
+            rt,
+            path,
+            input,
+            buf: [0; 65536],
+            out: [0; 65536],
+            state: State {
+                from: 0,
+                to: 0,
+                place: 0,
+                used: 0,
+                ended: false,
+                verdict: None,
+            },
+        }
     }
-    let state = write_lines(rt, out, state);
-    state.verdict
-}
 
-// Lists a recording that is open, and answers the verdict.
-fn list_open<R: Read>(rt: &HostRuntime, input: &mut R, path: &str) -> u8 {
-    let mut buf = [0u8; 65536];
-    let mut out = [0u8; 65536];
-    list(rt, input, path, &mut buf, &mut out)
+    // Reads once, after the bytes that are not listed yet, which are moved to the buffer's front. They leave room, so that a read of no bytes
+    // is the end of the recording.
+    fn read_more(&mut self)
+        requires { self.old.state.to < self.old.state.from + length self.old.buf }
+        ensures window { (self.new.state.from ≤ self.new.state.to) × (self.new.state.to ≤ length self.new.buf) × (self.new.state.used ≡ self.old.state.used) × (self.new.state.place ≡ self.old.state.place) }
+        ensures kept { take (self.old.state.to - self.old.state.from) (drop self.new.state.from self.new.buf) ≡ take (self.old.state.to - self.old.state.from) (drop self.old.state.from self.old.buf) }
+        ensures lines { (self.new.out ≡ self.old.out) × (length self.new.buf ≡ length self.old.buf) }
+    {
+        let kept = buffer::move_to_front(&mut self.buf, self.state.from, self.state.to);
+        self.state.from = 0;
+        self.state.to = kept;
+        match self.input.read(&mut self.buf[kept..]) {
+            Err(error) => {
+                print::failed(self.rt, self.path, error);
+                self.state.verdict = Some(Verdict::Failed);
+            }
+            Ok(more) => {
+                self.state.to = kept + more;
+                self.state.ended = more == 0;
+            }
+        }
+    }
+
+    // Writes the lines that are there. Where that fails, the verdict is no longer what the lines say.
+    fn write_lines(&mut self)
+        ensures kept { (self.new.state.from ≡ self.old.state.from) × (self.new.state.to ≡ self.old.state.to) × (self.new.state.used ≡ 0) }
+        ensures verdict { (self.new.state.verdict ≡ self.old.state.verdict) ⊎ IsSomeAnd self.new.state.verdict (λ verdict. 2 ≤ verdict_number verdict) }
+        ensures bytes { (self.new.buf ≡ self.old.buf) × (self.new.out ≡ self.old.out) }
+    {
+        let used = self.state.used;
+        if let Err(error) = self.rt.write_all(&self.out[..used]) {
+            self.state.verdict = Some(unwritten(self.rt, error));
+        }
+        self.state.used = 0;
+    }
+
+    // Puts the lines that are decided, and writes them: before they leave no room for the next, and before a read, which may have to wait
+    // for more of a pipe. Where there are none, and there is no verdict yet, reads once.
+    fn step(&mut self) {
+        self.state = show_lines(&self.buf, &mut self.out, self.state);
+        if self.state.used > 0 {
+            self.write_lines();
+        } else if self.state.verdict.is_none() {
+            self.read_more();
+        }
+    }
+
+    // Lists the recording, and answers the verdict. A proved loop has to end, and nothing says that a file does: no run uses the turns up.
+    fn list(&mut self) -> Verdict {
+        for _ in 0..u64::MAX {
+            if self.state.verdict.is_some() {
+                break;
+            }
+            self.step();
+        }
+        self.write_lines();
+        self.state.verdict.unwrap_or(Verdict::Failed)
+    }
 }
 
 // Lists the file of that name, or standard input for `-`, and answers the verdict.
-fn list_file(rt: &HostRuntime, path: &str) -> u8 {
+fn list_file(rt: &HostRuntime, path: &str) -> Verdict {
     if path == "-" {
-        return list_open(rt, &mut rt.stdin(), path);
+        return Listing::new(rt, path, &mut rt.stdin()).list();
     }
     match fs::open(rt, path) {
-        Ok(mut file) => list_open(rt, &mut file, path),
+        Ok(mut file) => Listing::new(rt, path, &mut file).list(),
         Err(error) => {
             print::failed(rt, path, error);
-            FAILED
+            Verdict::Failed
         }
     }
 }
 
-// Writes the verdict to a file, which it makes, or empties where it is there.
-fn write_verdict(rt: &HostRuntime, path: &str, verdict: u8) -> io::Result<()> {
+fn number(verdict: Verdict) -> u8
+    ensures { result ≡ verdict_number verdict }
+{
+    verdict as u8
+}
+
+// Writes the verdict's number to a file, which it makes, or empties where it is there.
+fn write_verdict(rt: &HostRuntime, path: &str, verdict: Verdict) -> io::Result<()> {
     let mut file = fs::create(rt, path)?;
-    write!(file, "{verdict}")
+    write!(file, "{}", number(verdict))
 }
 
 // Writes the verdict to the file that the second argument names.
-fn tell(rt: &HostRuntime, verdict: u8) {
+fn tell(rt: &HostRuntime, verdict: Verdict) {
     let mut bytes = [0u8; 4096];
     let got = rt.arg(2, &mut bytes);
     match argument::text(got, &bytes) {

@@ -3,19 +3,15 @@ ghost use Rattle.std.specs.Prelude.{◌+◌, ◌<◌, ◌≤◌, length};
 ghost use Rattle.listing.specs.Text.{Put, two_digits, decimal, message_text, refused_text, end_text, text_of};
 
 use message_recording::line::Line;
-use wire::status;
 
 // Puts `text` from `at` on, and answers the place after it.
 fn put(out: &mut [u8], at: usize, text: &[u8]) -> usize
     requires { at + length text.now ≤ length out.old }
     ensures { Put out.old at text.now result out.new }
 {
-    let mut k = 0;
-    while k < text.len() {
-        out[at + k] = text[k];
-        k += 1;
-    }
-    at + k
+    let end = at + text.len();
+    out[at..end].copy_from_slice(text);
+    end
 }
 
 // Puts the two digits of a number below 100. They are one number of two bytes first, so that they are stored at once.
@@ -113,7 +109,7 @@ pub(crate) fn put_line(out: &mut [u8], at: usize, place: u64, line: Line) -> usi
 {
     match line {
         Line::Message { command, size } => put_message(out, at, place, command, size),
-        Line::Refused { status } => put_refused(out, at, place, status::number(status)),
+        Line::Refused { refusal } => put_refused(out, at, place, refusal.number()),
         Line::End => put_end(out, at, place),
     }
 }

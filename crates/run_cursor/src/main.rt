@@ -3,337 +3,224 @@
 // those of 003 section 4, and orders, repeats and refusals of a small picture.
 #![tactic(auto)]
 
+use cursor_host::{Host, shown};
 use cursor_layout::{picture_layout, pointer_layout};
-use scan::bytes;
+use host_answers::Yes;
+use std::io;
 use wire::number;
 
-fn print_pointer(record: &[u8]) {
-    let pointer = pointer_layout::read(record);
-    print::field(b" pointer", pointer.known as u64);
-    print::number(pointer.sequence as u64);
-    print::signed(pointer.x);
-    print::signed(pointer.y);
+fn position<const N: usize>(rt: &HostRuntime, host: &mut Host<N>, packet: &[u8]) -> io::Result<()> {
+    let answer = host.position(packet);
+    print!(rt; "position {} pointer", answer.status)?;
+    shown::pointer(rt, pointer_layout::read(&host.pointer))?;
+    println!(rt; "")
 }
 
-fn print_picture(record: &[u8]) {
-    let picture = picture_layout::read(record);
-    print::field(b" picture", picture.opened as u64);
-    print::number(picture.id as u64);
-    print::number(picture.total as u64);
-    print::number(picture.opening as u64);
-    print::number(picture.seen as u64);
-    let start = picture.start;
-    print::number(start.image_type as u64);
-    print::number(start.hot_x as u64);
-    print::number(start.hot_y as u64);
-}
-
-fn print_byte(s: &[u8], at: usize) {
-    print::number(number::u8_at(s, at) as u64);
-}
-
-// The first byte, those `step - 1`, `step` and `2 * step - 1` places on, and the next one.
-fn print_five(s: &[u8], step: usize) {
-    print_byte(s, 0);
-    if 1 <= step {
-        if step <= 1000 {
-            print_byte(s, step - 1);
-            print_byte(s, step);
-            print_byte(s, 2 * step - 1);
-            print_byte(s, 2 * step);
-        }
+// The bytes at five places.
+fn bytes_at(rt: &HostRuntime, s: &[u8], places: [usize; 5]) -> io::Result<()> {
+    for at in places {
+        print!(rt; " {}", number::u8_at(s, at))?;
     }
+    Ok(())
 }
 
-fn call_position(pointer: &mut [u8], packet: &[u8]) {
-    let answer = cursor_calls::position(pointer, packet);
-    print::field(b"position", answer.status as u64);
-    print_pointer(pointer);
-    print::text(b"\n");
-}
-
-fn call_store(
-    pointer: &mut [u8],
-    picture: &mut [u8],
+// The line ends with five bytes of the picture and of the marks.
+fn store<const N: usize>(
+    rt: &HostRuntime,
+    host: &mut Host<N>,
     packet: &[u8],
-    image: &mut [u8],
-    marks: &mut [u8],
-) {
-    let answer = cursor_calls::store(pointer, picture, packet, image, marks);
-    print::field(b"store", answer.status as u64);
-    print_pointer(pointer);
-    print_picture(picture);
+    places: [usize; 5],
+) -> io::Result<()> {
+    let answer = host.store(packet);
+    print!(rt; "store {} pointer", answer.status)?;
+    shown::pointer(rt, pointer_layout::read(&host.pointer))?;
+    print!(rt; " picture")?;
+    shown::picture(rt, picture_layout::read(&host.picture))?;
+    print!(rt; " bytes")?;
+    bytes_at(rt, &host.image, places)?;
+    print!(rt; " marks")?;
+    bytes_at(rt, &host.marks, places)?;
+    println!(rt; "")
 }
 
-// The five bytes of the picture and of the marks, which end the line of a store.
-fn print_bytes(image: &[u8], marks: &[u8], step: usize) {
-    print::text(b" bytes");
-    print_five(image, step);
-    print::text(b" marks");
-    print_five(marks, step);
-    print::text(b"\n");
-}
-
-fn call_complete(picture: &[u8], image: &[u8], marks: &[u8]) {
-    let answer = cursor_calls::complete(picture, image, marks);
-    if answer.status != 0 {
-        print::field(b"complete", answer.status as u64);
-    } else if answer.yes {
-        print::text(b"complete yes");
-    } else {
-        print::text(b"complete no");
+fn complete<const N: usize>(rt: &HostRuntime, host: &Host<N>) -> io::Result<()> {
+    match host.complete() {
+        Yes {
+            status: 0,
+            yes: true,
+        } => println!(rt; "complete yes"),
+        Yes {
+            status: 0,
+            yes: false,
+        } => println!(rt; "complete no"),
+        Yes { status, yes: _ } => println!(rt; "complete {status}"),
     }
-    print::text(b"\n");
 }
+
+const P9: &[u8] = b"\x80\x00\x00\x05\x00\x00\x00\x00\x00\x00\x00\x00\x01\x00\x07\xff\xfe\x00\x0a";
 
 // P9, the same again, 32,767 ahead (with the position of 003 section 4), an older one, 65,535, 0 after it; then a start, a wrong size,
 // too few bytes twice, too many; an SSRC that is not 0, which is taken (02 §2), another first byte, and another second one.
-fn positions() {
-    let p9 = b"\x80\x00\x00\x05\x00\x00\x00\x00\x00\x00\x00\x00\x01\x00\x07\xff\xfe\x00\x0a";
-    let mut pointer = [0u8; pointer_layout::LENGTH];
-    cursor_calls::pointer_fresh(&mut pointer);
-    call_position(&mut pointer, p9);
-    call_position(&mut pointer, p9);
-    call_position(
-        &mut pointer,
-        b"\x80\x00\x80\x04\x00\x00\x00\x00\x00\x00\x00\x00\x01\x00\x07\x00\x0c\x00\x0a",
-    );
-    call_position(&mut pointer, p9);
-    call_position(
-        &mut pointer,
-        b"\x80\x00\xff\xff\x00\x00\x00\x00\x00\x00\x00\x00\x01\x00\x07\x00\x01\x00\x02",
-    );
-    call_position(
-        &mut pointer,
-        b"\x80\x00\x00\x00\x00\x00\x00\x00\x00\x00\x00\x00\x01\x00\x07\x80\x00\x7f\xff",
-    );
-    call_position(
-        &mut pointer,
-        b"\x80\x00\x00\x05\x00\x00\x00\x00\x00\x00\x00\x00\x02\x00\x12\x00\x00\x00\x00\x00\x01\x00\x00\x00\x00\x01\x00\x00\x00\x00",
-    );
-    call_position(
-        &mut pointer,
-        b"\x80\x00\x00\x05\x00\x00\x00\x00\x00\x00\x00\x00\x01\x00\x08\xff\xfe\x00\x0a\x00",
-    );
-    call_position(
-        &mut pointer,
-        b"\x80\x00\x00\x05\x00\x00\x00\x00\x00\x00\x00\x00\x01\x00",
-    );
-    call_position(
-        &mut pointer,
-        b"\x80\x00\x00\x05\x00\x00\x00\x00\x00\x00\x00\x00\x01\x00\x07\xff\xfe\x00",
-    );
-    call_position(
-        &mut pointer,
-        b"\x80\x00\x00\x05\x00\x00\x00\x00\x00\x00\x00\x00\x01\x00\x07\xff\xfe\x00\x0a\x00",
-    );
-    call_position(
-        &mut pointer,
-        b"\x80\x00\x00\x05\x00\x00\x00\x00\x00\x00\x00\x01\x01\x00\x07\xff\xfe\x00\x0a",
-    );
-    call_position(
-        &mut pointer,
-        b"\x81\x00\x00\x05\x00\x00\x00\x00\x00\x00\x00\x00\x01\x00\x07\xff\xfe\x00\x0a",
-    );
-    call_position(
-        &mut pointer,
-        b"\x80\x01\x00\x05\x00\x00\x00\x00\x00\x00\x00\x00\x01\x00\x07\xff\xfe\x00\x0a",
-    );
-}
+const POSITIONS: [&[u8]; 14] = [
+    P9,
+    P9,
+    b"\x80\x00\x80\x04\x00\x00\x00\x00\x00\x00\x00\x00\x01\x00\x07\x00\x0c\x00\x0a",
+    P9,
+    b"\x80\x00\xff\xff\x00\x00\x00\x00\x00\x00\x00\x00\x01\x00\x07\x00\x01\x00\x02",
+    b"\x80\x00\x00\x00\x00\x00\x00\x00\x00\x00\x00\x00\x01\x00\x07\x80\x00\x7f\xff",
+    b"\x80\x00\x00\x05\x00\x00\x00\x00\x00\x00\x00\x00\x02\x00\x12\x00\x00\x00\x00\x00\x01\x00\x00\x00\x00\x01\x00\x00\x00\x00",
+    b"\x80\x00\x00\x05\x00\x00\x00\x00\x00\x00\x00\x00\x01\x00\x08\xff\xfe\x00\x0a\x00",
+    b"\x80\x00\x00\x05\x00\x00\x00\x00\x00\x00\x00\x00\x01\x00",
+    b"\x80\x00\x00\x05\x00\x00\x00\x00\x00\x00\x00\x00\x01\x00\x07\xff\xfe\x00",
+    b"\x80\x00\x00\x05\x00\x00\x00\x00\x00\x00\x00\x00\x01\x00\x07\xff\xfe\x00\x0a\x00",
+    b"\x80\x00\x00\x05\x00\x00\x00\x00\x00\x00\x00\x01\x01\x00\x07\xff\xfe\x00\x0a",
+    b"\x81\x00\x00\x05\x00\x00\x00\x00\x00\x00\x00\x00\x01\x00\x07\xff\xfe\x00\x0a",
+    b"\x80\x01\x00\x05\x00\x00\x00\x00\x00\x00\x00\x00\x01\x00\x07\xff\xfe\x00\x0a",
+];
 
 // P10, each on fresh records and untouched bytes: total 8; offset 8 with no data; offset 7 with two bytes; offset FFFFFFFF hex.
-fn offset_call(packet: &[u8]) {
-    let mut pointer = [0u8; pointer_layout::LENGTH];
-    let mut picture = [0u8; picture_layout::LENGTH];
-    cursor_calls::pointer_fresh(&mut pointer);
-    cursor_calls::picture_fresh(&mut picture);
-    let mut image = [46u8; 9];
-    let mut marks = [7u8; 9];
-    call_store(&mut pointer, &mut picture, packet, &mut image, &mut marks);
-    print_bytes(&image, &marks, 4);
+const OFFSETS: [&[u8]; 3] = [
+    b"\x80\x00\x00\x05\x00\x00\x00\x00\x00\x00\x00\x00\x03\x00\x0d\x00\x00\x00\x08\x00\x01\x00\x00\x00\x08",
+    b"\x80\x00\x00\x05\x00\x00\x00\x00\x00\x00\x00\x00\x03\x00\x0f\x00\x00\x00\x08\x00\x01\x00\x00\x00\x07\x41\x42",
+    b"\x80\x00\x00\x05\x00\x00\x00\x00\x00\x00\x00\x00\x03\x00\x0d\x00\x00\x00\x08\x00\x01\xff\xff\xff\xff",
+];
+
+fn positions(rt: &HostRuntime) -> io::Result<()> {
+    let mut host = Host::<0>::new(0, 0);
+    for packet in POSITIONS {
+        position(rt, &mut host, packet)?;
+    }
+    Ok(())
 }
 
-fn offsets() {
-    offset_call(
-        b"\x80\x00\x00\x05\x00\x00\x00\x00\x00\x00\x00\x00\x03\x00\x0d\x00\x00\x00\x08\x00\x01\x00\x00\x00\x08",
-    );
-    offset_call(
-        b"\x80\x00\x00\x05\x00\x00\x00\x00\x00\x00\x00\x00\x03\x00\x0f\x00\x00\x00\x08\x00\x01\x00\x00\x00\x07\x41\x42",
-    );
-    offset_call(
-        b"\x80\x00\x00\x05\x00\x00\x00\x00\x00\x00\x00\x00\x03\x00\x0d\x00\x00\x00\x08\x00\x01\xff\xff\xff\xff",
-    );
+fn offsets(rt: &HostRuntime) -> io::Result<()> {
+    for packet in OFFSETS {
+        let mut host = Host::<9>::new(46, 7);
+        store(rt, &mut host, packet, [0, 3, 4, 7, 8])?;
+    }
+    Ok(())
 }
 
 // 003 section 4: 512 bytes of image, a start with the first 256 and a continuation with the others. Given are what stands before the data.
-fn shape(start: &[u8], continuation: &[u8]) {
-    let mut first = [65u8; 286];
-    bytes::copy(&mut first, start);
-    let mut second = [66u8; 281];
-    bytes::copy(&mut second, continuation);
-    let mut pointer = [0u8; pointer_layout::LENGTH];
-    let mut picture = [0u8; picture_layout::LENGTH];
-    cursor_calls::pointer_fresh(&mut pointer);
-    cursor_calls::picture_fresh(&mut picture);
-    let mut image = [46u8; 513];
-    let mut marks = [7u8; 513];
-    call_store(&mut pointer, &mut picture, &first, &mut image, &mut marks);
-    print_bytes(&image, &marks, 256);
-    call_complete(&picture, &image, &marks);
-    call_store(&mut pointer, &mut picture, &second, &mut image, &mut marks);
-    print_bytes(&image, &marks, 256);
-    call_complete(&picture, &image, &marks);
+fn shape(rt: &HostRuntime, start: &[u8; 30], continuation: &[u8; 25]) -> io::Result<()> {
+    let mut first = [65; 286];
+    first[..30].copy_from_slice(start);
+    let mut second = [66; 281];
+    second[..25].copy_from_slice(continuation);
+    let mut host = Host::<513>::new(46, 7);
+    for packet in [first.as_slice(), second.as_slice()] {
+        store(rt, &mut host, packet, [0, 255, 256, 511, 512])?;
+        complete(rt, &host)?;
+    }
+    Ok(())
 }
 
 // With sequence numbers 0 and 1: timestamp and SSRC 0, and then filled, which changes nothing (02 §2).
-fn shapes() {
+fn shapes(rt: &HostRuntime) -> io::Result<()> {
     shape(
+        rt,
         b"\x80\x00\x00\x00\x00\x00\x00\x00\x00\x00\x00\x00\x02\x01\x12\x00\x00\x02\x00\x12\x34\x00\x0c\x00\x0a\x03\x00\x12\x00\x0f",
         b"\x80\x00\x00\x01\x00\x00\x00\x00\x00\x00\x00\x00\x03\x01\x0d\x00\x00\x02\x00\x12\x34\x00\x00\x01\x00",
-    );
+    )?;
     shape(
+        rt,
         b"\x80\x00\x00\x00\x11\x22\x33\x44\xaa\xbb\xcc\xdd\x02\x01\x12\x00\x00\x02\x00\x12\x34\x00\x0c\x00\x0a\x03\x00\x12\x00\x0f",
         b"\x80\x00\x00\x01\x11\x22\x33\x44\xaa\xbb\xcc\xdd\x03\x01\x0d\x00\x00\x02\x00\x12\x34\x00\x00\x01\x00",
-    );
+    )
 }
 
-// What a host keeps: both records, and a picture and marks of five places.
-#[derive(Clone, Copy)]
-struct Small {
-    pointer: [u8; pointer_layout::LENGTH],
-    picture: [u8; picture_layout::LENGTH],
-    image: [u8; 5],
-    marks: [u8; 5],
+// A picture of four bytes and one place more, of which each line shows all.
+fn small(rt: &HostRuntime, host: &mut Host<5>, packet: &[u8]) -> io::Result<()> {
+    store(rt, host, packet, [0, 1, 2, 3, 4])
 }
 
-fn fresh_small() -> Small {
-    let mut pointer = [0u8; pointer_layout::LENGTH];
-    let mut picture = [0u8; picture_layout::LENGTH];
-    cursor_calls::pointer_fresh(&mut pointer);
-    cursor_calls::picture_fresh(&mut picture);
-    Small {
-        pointer,
-        picture,
-        image: [46u8; 5],
-        marks: [7u8; 5],
-    }
-}
+// The two bytes in the middle.
+const MIDDLE: &[u8] =
+    b"\x80\x00\x00\x1f\x00\x00\x00\x00\x00\x00\x00\x00\x03\x00\x0f\x00\x00\x00\x04\x00\x09\x00\x00\x00\x01\x42\x43";
 
-fn small_store(small: Small, packet: &[u8]) -> Small {
-    let mut pointer = small.pointer;
-    let mut picture = small.picture;
-    let mut image = small.image;
-    let mut marks = small.marks;
-    call_store(&mut pointer, &mut picture, packet, &mut image, &mut marks);
-    print_bytes(&image, &marks, 2);
-    Small {
-        pointer,
-        picture,
-        image,
-        marks,
-    }
-}
+// The last byte.
+const LAST: &[u8] =
+    b"\x80\x00\x00\x20\x00\x00\x00\x00\x00\x00\x00\x00\x03\x00\x0e\x00\x00\x00\x04\x00\x09\x00\x00\x00\x03\x44";
 
-fn small_complete(small: Small) {
-    let picture = small.picture;
-    let image = small.image;
-    let marks = small.marks;
-    call_complete(&picture, &image, &marks);
-}
+// The first two bytes, in a start.
+const FIRST: &[u8] =
+    b"\x80\x00\x00\x1e\x00\x00\x00\x00\x00\x00\x00\x00\x02\x00\x14\x00\x00\x00\x04\x00\x09\xff\xfe\x00\x0a\x03\x00\x01\x00\x02\x41\x42";
 
 // A picture of four bytes under id 9, opened by a continuation: in any order, repeated, with an older start, and refusals between.
-fn in_order(small: Small) -> Small {
-    let middle =
-        b"\x80\x00\x00\x1f\x00\x00\x00\x00\x00\x00\x00\x00\x03\x00\x0f\x00\x00\x00\x04\x00\x09\x00\x00\x00\x01\x42\x43";
-    small_complete(small);
-    let r = small_store(small, middle);
-    small_complete(r);
-    let r = small_store(
-        r,
-        b"\x80\x00\x00\x20\x00\x00\x00\x00\x00\x00\x00\x00\x03\x00\x0e\x00\x00\x00\x04\x00\x09\x00\x00\x00\x03\x44",
-    );
-    let r = small_store(r, middle);
-    let r = small_store(r, b"");
-    small_complete(r);
-    let r = small_store(
-        r,
-        b"\x80\x00\x00\x1e\x00\x00\x00\x00\x00\x00\x00\x00\x02\x00\x14\x00\x00\x00\x04\x00\x09\xff\xfe\x00\x0a\x03\x00\x01\x00\x02\x41\x42",
-    );
-    small_complete(r);
-    r
+fn in_order(rt: &HostRuntime, host: &mut Host<5>) -> io::Result<()> {
+    complete(rt, host)?;
+    small(rt, host, MIDDLE)?;
+    complete(rt, host)?;
+    for packet in [LAST, MIDDLE, b""] {
+        small(rt, host, packet)?;
+    }
+    complete(rt, host)?;
+    small(rt, host, FIRST)?;
+    complete(rt, host)
 }
 
 // A second start with another hot spot 13; another byte for a filled place 13; another total 12; another id, not newer, 11; too large a
 // total 10; a position 4.
-fn refusals(small: Small) -> Small {
-    let r = small_store(
-        small,
-        b"\x80\x00\x00\x21\x00\x00\x00\x00\x00\x00\x00\x00\x02\x00\x14\x00\x00\x00\x04\x00\x09\xff\xfe\x00\x0a\x03\x00\x05\x00\x02\x41\x42",
-    );
-    let r = small_store(
-        r,
-        b"\x80\x00\x00\x22\x00\x00\x00\x00\x00\x00\x00\x00\x03\x00\x0f\x00\x00\x00\x04\x00\x09\x00\x00\x00\x01\x42\x58",
-    );
-    let r = small_store(
-        r,
-        b"\x80\x00\x00\x22\x00\x00\x00\x00\x00\x00\x00\x00\x03\x00\x0f\x00\x00\x00\x05\x00\x09\x00\x00\x00\x01\x42\x43",
-    );
-    let r = small_store(
-        r,
-        b"\x80\x00\x00\x1d\x00\x00\x00\x00\x00\x00\x00\x00\x03\x00\x0e\x00\x00\x00\x02\x00\x0a\x00\x00\x00\x00\x5a",
-    );
-    let r = small_store(
-        r,
-        b"\x80\x00\x00\x32\x00\x00\x00\x00\x00\x00\x00\x00\x03\x00\x0e\x00\x00\x00\x06\x00\x0b\x00\x00\x00\x00\x5a",
-    );
-    small_store(
-        r,
-        b"\x80\x00\x00\x32\x00\x00\x00\x00\x00\x00\x00\x00\x01\x00\x07\xff\xfe\x00\x0a",
-    )
+const REFUSED: [&[u8]; 6] = [
+    b"\x80\x00\x00\x21\x00\x00\x00\x00\x00\x00\x00\x00\x02\x00\x14\x00\x00\x00\x04\x00\x09\xff\xfe\x00\x0a\x03\x00\x05\x00\x02\x41\x42",
+    b"\x80\x00\x00\x22\x00\x00\x00\x00\x00\x00\x00\x00\x03\x00\x0f\x00\x00\x00\x04\x00\x09\x00\x00\x00\x01\x42\x58",
+    b"\x80\x00\x00\x22\x00\x00\x00\x00\x00\x00\x00\x00\x03\x00\x0f\x00\x00\x00\x05\x00\x09\x00\x00\x00\x01\x42\x43",
+    b"\x80\x00\x00\x1d\x00\x00\x00\x00\x00\x00\x00\x00\x03\x00\x0e\x00\x00\x00\x02\x00\x0a\x00\x00\x00\x00\x5a",
+    b"\x80\x00\x00\x32\x00\x00\x00\x00\x00\x00\x00\x00\x03\x00\x0e\x00\x00\x00\x06\x00\x0b\x00\x00\x00\x00\x5a",
+    b"\x80\x00\x00\x32\x00\x00\x00\x00\x00\x00\x00\x00\x01\x00\x07\xff\xfe\x00\x0a",
+];
+
+// A fragment of id 10, newer than those before.
+const NEWER: &[u8] =
+    b"\x80\x00\x00\x28\x00\x00\x00\x00\x00\x00\x00\x00\x03\x00\x0e\x00\x00\x00\x02\x00\x0a\x00\x00\x00\x00\x5a";
+
+// The newer fragment opens its picture, a late one of id 9 doesn't open that again; with too few places lent, 17.
+fn another(rt: &HostRuntime, host: &mut Host<5>) -> io::Result<()> {
+    small(rt, host, NEWER)?;
+    small(rt, host, MIDDLE)?;
+    let mut narrow = Host {
+        pointer: host.pointer,
+        picture: host.picture,
+        image: [46; 1],
+        marks: [7; 1],
+    };
+    store(rt, &mut narrow, MIDDLE, [0, 1, 2, 3, 4])?;
+    complete(rt, &narrow)
 }
 
-// A newer fragment of id 10 opens its picture, a late one of id 9 doesn't open that again; with too few places lent, 17.
-fn another(small: Small) {
-    let r = small_store(
-        small,
-        b"\x80\x00\x00\x28\x00\x00\x00\x00\x00\x00\x00\x00\x03\x00\x0e\x00\x00\x00\x02\x00\x0a\x00\x00\x00\x00\x5a",
-    );
-    let late =
-        b"\x80\x00\x00\x1f\x00\x00\x00\x00\x00\x00\x00\x00\x03\x00\x0f\x00\x00\x00\x04\x00\x09\x00\x00\x00\x01\x42\x43";
-    let r = small_store(r, late);
-    let mut image = [46u8; 1];
-    let mut marks = [7u8; 1];
-    let mut pointer = r.pointer;
-    let mut picture = r.picture;
-    call_store(&mut pointer, &mut picture, late, &mut image, &mut marks);
-    print_bytes(&image, &marks, 2);
-    call_complete(&picture, &image, &marks);
-}
-
-fn orders() {
-    let r = in_order(fresh_small());
-    let r = refusals(r);
-    another(r);
+fn orders(rt: &HostRuntime) -> io::Result<()> {
+    let mut host = Host::<5>::new(46, 7);
+    in_order(rt, &mut host)?;
+    for packet in REFUSED {
+        small(rt, &mut host, packet)?;
+    }
+    another(rt, &mut host)
 }
 
 // Starts of total 0, complete at once: sequence number 65,535, then 0, which opens the next picture.
-fn wraps() {
-    let r = small_store(
-        fresh_small(),
-        b"\x80\x00\xff\xff\x00\x00\x00\x00\x00\x00\x00\x00\x02\x00\x12\x00\x00\x00\x00\x00\x01\x00\x03\x00\x04\x01\x00\x00\x00\x00",
-    );
-    small_complete(r);
-    let r = small_store(
-        r,
-        b"\x80\x00\x00\x00\x00\x00\x00\x00\x00\x00\x00\x00\x02\x00\x12\x00\x00\x00\x00\x00\x02\x00\x05\x00\x06\x02\x00\x00\x00\x09",
-    );
-    small_complete(r);
+const WRAPS: [&[u8]; 2] = [
+    b"\x80\x00\xff\xff\x00\x00\x00\x00\x00\x00\x00\x00\x02\x00\x12\x00\x00\x00\x00\x00\x01\x00\x03\x00\x04\x01\x00\x00\x00\x00",
+    b"\x80\x00\x00\x00\x00\x00\x00\x00\x00\x00\x00\x00\x02\x00\x12\x00\x00\x00\x00\x00\x02\x00\x05\x00\x06\x02\x00\x00\x00\x09",
+];
+
+fn wraps(rt: &HostRuntime) -> io::Result<()> {
+    let mut host = Host::<5>::new(46, 7);
+    for packet in WRAPS {
+        small(rt, &mut host, packet)?;
+        complete(rt, &host)?;
+    }
+    Ok(())
 }
 
-fn main() {
-    positions();
-    offsets();
-    shapes();
-    orders();
-    wraps();
+fn run(rt: &HostRuntime) -> io::Result<()> {
+    positions(rt)?;
+    offsets(rt)?;
+    shapes(rt)?;
+    orders(rt)?;
+    wraps(rt)
+}
+
+// Where its lines can't be written the program ends as ever, with status 0.
+fn main(rt: HostRuntime) {
+    run(&rt).ok();
 }

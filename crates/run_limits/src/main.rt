@@ -4,6 +4,7 @@
 ghost use Rattle.std.specs.Prelude.{◌≤◌};
 
 use cursor_limits::value::{Answer, Limits, Value, Xor};
+use std::io;
 use wire::status;
 
 // The fields of a value.
@@ -38,130 +39,93 @@ fn sample(field: Field, number: u16) -> Limits {
     }
 }
 
-fn is_full(xor: Xor) -> bool {
-    match xor {
-        Xor::None => false,
-        Xor::Full => true,
-    }
-}
-
-fn same(a: Limits, b: Limits) -> bool {
-    let x = a.xor;
-    let y = b.xor;
-    if is_full(x) != is_full(y) {
-        return false;
-    }
-    if a.width != b.width {
-        return false;
-    }
-    if a.height != b.height {
-        return false;
-    }
-    a.port == b.port
-}
-
 // Whether the limits, written and read, come back the same.
 fn comes_back(limits: Limits) -> bool {
-    let mut text = [0u8; 19];
+    let mut text = [0; 19];
     cursor_limits::write(Value::Supported(limits), &mut text);
-    let Answer::Accepted(value) = cursor_limits::read(&text) else {
-        return false;
-    };
-    match value {
-        Value::NotSupported => false,
-        Value::Supported(found) => same(limits, found),
+    match cursor_limits::read(&text) {
+        Answer::Accepted(Value::Supported(found)) => found == limits,
+        _ => false,
     }
 }
 
 // How many of the 65,536 numbers of the field come back.
-fn count(field: Field) -> u32
+fn count(field: Field) -> usize
     ensures { result ≤ 65536 }
 {
-    let mut n: u32 = 0;
-    let mut number: u32 = 0;
-    while number < 65536 {
-        if comes_back(sample(field, number as u16)) {
-            n += 1;
-        }
-        number += 1;
-    }
-    n
+    (0..=u16::MAX)
+        .filter(|number| comes_back(sample(field, *number)))
+        .count()
 }
 
-fn show_count(name: &[u8], field: Field) {
-    print::field(name, count(field) as u64);
-    print::text(b"\n");
-}
-
-fn show_limits(limits: Limits) {
-    let xor = limits.xor;
-    if is_full(xor) {
-        print::text(b"xor full");
-    } else {
-        print::text(b"xor none");
-    }
-    print::field(b" width", limits.width as u64);
-    print::field(b" height", limits.height as u64);
-    print::field(b" port", limits.port as u64);
-}
-
-fn show_value(value: Value) {
-    match value {
-        Value::NotSupported => print::text(b"not supported"),
-        Value::Supported(limits) => show_limits(limits),
-    }
-}
-
-fn show_answer(answer: Answer) {
-    match answer {
-        Answer::Accepted(value) => show_value(value),
-        Answer::Refused { status, place } => {
-            print::field(b"refused", status::number(status) as u64);
-        }
-    }
+fn show_limits(rt: &HostRuntime, limits: Limits) -> io::Result<()> {
+    let Limits {
+        xor,
+        width,
+        height,
+        port,
+    } = limits;
+    let word = match xor {
+        Xor::None => "none",
+        Xor::Full => "full",
+    };
+    println!(rt; "xor {word} width {width} height {height} port {port}")
 }
 
 // The text in quotes, and what it means.
-fn show(text: &[u8]) {
-    print::text(b"\"");
-    print::text(text);
-    print::text(b"\" ");
-    show_answer(cursor_limits::read(text));
-    print::text(b"\n");
+fn show(rt: &HostRuntime, text: &str) -> io::Result<()> {
+    print!(rt; "\"{text}\" ")?;
+    match cursor_limits::read(text.as_bytes()) {
+        Answer::Accepted(Value::NotSupported) => println!(rt; "not supported"),
+        Answer::Accepted(Value::Supported(limits)) => show_limits(rt, limits),
+        Answer::Refused { status, place: _ } => println!(rt; "refused {}", status::number(status)),
+    }
 }
 
-fn main() {
-    show_count(b"width", Field::Width);
-    show_count(b"height", Field::Height);
-    show_count(b"port", Field::Port);
+const SPELLINGS: [&str; 26] = [
     // Values.
-    show(b"none");
-    show(b"NONE");
-    show(b"nOnE");
-    show(b"full 0100 0080 C351");
-    show(b"FULL 0100 0080 c351");
-    show(b"none 0000 FFFF ffff");
-    show(b"Full aBcD AbCd 1c44");
+    "none",
+    "NONE",
+    "nOnE",
+    "full 0100 0080 C351",
+    "FULL 0100 0080 c351",
+    "none 0000 FFFF ffff",
+    "Full aBcD AbCd 1c44",
     // Words.
-    show(b"");
-    show(b"non");
-    show(b"none ");
-    show(b" none");
-    show(b"full");
-    show(b"nonefull 0100 0080 C351");
-    show(b"some 0100 0080 C351");
+    "",
+    "non",
+    "none ",
+    " none",
+    "full",
+    "nonefull 0100 0080 C351",
+    "some 0100 0080 C351",
     // Spaces.
-    show(b"full  0100 0080 C351");
-    show(b"full 0100  080 C351");
-    show(b"full\t0100 0080 C351");
-    show(b"full 0100 0080 C351 ");
-    show(b"full 0100 0080 C351\n");
+    "full  0100 0080 C351",
+    "full 0100  080 C351",
+    "full\t0100 0080 C351",
+    "full 0100 0080 C351 ",
+    "full 0100 0080 C351\n",
     // Digits.
-    show(b"full 0x0200 0x0200 50001");
-    show(b"full 0200 0200 50001");
-    show(b"full 100 0080 C351");
-    show(b"full 0100 0080 C35G");
-    show(b"full 0100 0080 C35g");
-    show(b"full 01/0 00:0 C3@1");
-    show(b"full 0100 0080");
+    "full 0x0200 0x0200 50001",
+    "full 0200 0200 50001",
+    "full 100 0080 C351",
+    "full 0100 0080 C35G",
+    "full 0100 0080 C35g",
+    "full 01/0 00:0 C3@1",
+    "full 0100 0080",
+];
+
+fn run(rt: &HostRuntime) -> io::Result<()> {
+    println!(rt; "width {}", count(Field::Width))?;
+    println!(rt; "height {}", count(Field::Height))?;
+    println!(rt; "port {}", count(Field::Port))?;
+    for text in SPELLINGS {
+        show(rt, text)?;
+    }
+    Ok(())
+}
+
+// Where its lines can't be written the program ends as ever, with status 0.
+fn main(rt: HostRuntime) {
+    run(&rt).ok();
 }

@@ -6,20 +6,9 @@
 
 use message_rules::accessors::SourceId;
 use session_step::in_place;
-use session_step::step::Stepped;
 use session_table::record::{Session, State};
+use std::io;
 use wire::status;
-
-fn print_state(state: State) {
-    match state {
-        State::Waiting => print::text(b"Waiting"),
-        State::Handshake => print::text(b"Handshake"),
-        State::PinWait => print::text(b"PinWait"),
-        State::ReadyWait => print::text(b"ReadyWait"),
-        State::Projecting => print::text(b"Projecting"),
-        State::Closed => print::text(b"Closed"),
-    }
-}
 
 fn source(present: bool, byte: u8) -> SourceId {
     SourceId {
@@ -29,102 +18,112 @@ fn source(present: bool, byte: u8) -> SourceId {
 }
 
 // The first byte of a Source ID, or 0 where there is none.
-fn first_byte(source: SourceId) -> u64 {
-    if source.present {
-        let bytes = source.bytes;
-        return bytes[0] as u64;
-    }
-    0
+fn first_byte(source: SourceId) -> u8 {
+    if source.present { source.bytes[0] } else { 0 }
 }
 
-fn print_session(session: Session) {
-    let state = session.state;
-    print::text(b" ");
-    print_state(state);
-    print::number(session.options as u64);
-    let kept = session.source;
-    print::number(first_byte(kept));
+// The Source ID that an event carries.
+#[derive(Clone, Copy)]
+enum Carried {
+    None,
+    Kept,
+    Another,
 }
 
-fn print_stepped(after: Stepped) {
-    let answer = after.answer;
-    let status = answer.status;
-    print::number(status::number(status) as u64);
-    print::number(answer.check as u64);
-    let session = after.session;
-    print_session(session);
-}
-
-// The Source ID that the event carries: 0 none, 1 the kept one, 2 another.
-fn carried(which: u8) -> SourceId {
-    match which {
-        0 => source(false, 0),
-        1 => source(true, 7),
-        _ => source(true, 8),
+impl Carried {
+    fn source(self) -> SourceId {
+        match self {
+            Carried::None => source(false, 0),
+            Carried::Kept => source(true, 7),
+            Carried::Another => source(true, 8),
+        }
     }
 }
 
-fn line(state: State, event: u8, kept: bool, which: u8, options: u8, brought: u8) {
-    let session = Session {
+// A step to be made: what the session keeps, and what the event brings.
+#[derive(Clone, Copy)]
+struct Case {
+    state: State,
+    event: u8,
+    kept: bool,
+    carried: Carried,
+    options: u8,
+    brought: u8,
+}
+
+impl Case {
+    fn session(&self) -> Session {
+        Session {
+            state: self.state,
+            options: self.options,
+            source: source(self.kept, 7),
+        }
+    }
+}
+
+fn line(rt: &HostRuntime, case: Case) -> io::Result<()> {
+    let Case {
         state,
+        event,
+        kept,
+        carried,
         options,
-        source: source(kept, 7),
-    };
-    print_state(state);
-    print::number(event as u64);
-    print::number(kept as u64);
-    print::number(which as u64);
-    print::number(options as u64);
-    print::number(brought as u64);
-    print::text(b":");
-    print_stepped(in_place::lend_and_step(session, event, carried(which), brought));
-    print::text(b"\n");
+        brought,
+    } = case;
+    print!(rt;
+        "{state:?} {event} {} {} {options} {brought}:",
+        kept as u8, carried as u8
+    )?;
+    let after = in_place::lend_and_step(case.session(), event, carried.source(), brought);
+    let status = status::number(after.answer.status);
+    print!(rt; " {status} {}", after.answer.check as u8)?;
+    let session = after.session;
+    let first = first_byte(session.source);
+    println!(rt; " {:?} {} {first}", session.state, session.options)
 }
 
-fn brought_lines(state: State, event: u8, kept: bool, which: u8, options: u8) {
-    line(state, event, kept, which, options, 0);
-    line(state, event, kept, which, options, 3);
-}
-
-fn options_lines(state: State, event: u8, kept: bool, which: u8) {
-    brought_lines(state, event, kept, which, 0);
-    brought_lines(state, event, kept, which, 2);
-}
-
-fn source_lines(state: State, event: u8, kept: bool) {
-    options_lines(state, event, kept, 0);
-    options_lines(state, event, kept, 1);
-    options_lines(state, event, kept, 2);
-}
-
-fn event_lines(state: State, event: u8) {
-    source_lines(state, event, false);
-    source_lines(state, event, true);
-}
-
-fn state_lines(state: State) {
-    event_lines(state, 0);
-    event_lines(state, 1);
-    event_lines(state, 2);
-    event_lines(state, 3);
-    event_lines(state, 4);
-    event_lines(state, 5);
-    event_lines(state, 6);
-    event_lines(state, 7);
-    event_lines(state, 8);
-    event_lines(state, 9);
-    event_lines(state, 10);
-    event_lines(state, 11);
+// The lines of a state and an event.
+fn event_lines(rt: &HostRuntime, state: State, event: u8) -> io::Result<()> {
+    for kept in [false, true] {
+        for carried in [Carried::None, Carried::Kept, Carried::Another] {
+            for options in [0, 2] {
+                for brought in [0, 3] {
+                    line(
+                        rt,
+                        Case {
+                            state,
+                            event,
+                            kept,
+                            carried,
+                            options,
+                            brought,
+                        },
+                    )?;
+                }
+            }
+        }
+    }
+    Ok(())
 }
 
 // From a fresh session's state, Waiting, on.
-fn main() {
-    let fresh = Session::fresh();
-    let first = fresh.state;
-    state_lines(first);
-    state_lines(State::Handshake);
-    state_lines(State::PinWait);
-    state_lines(State::ReadyWait);
-    state_lines(State::Projecting);
-    state_lines(State::Closed);
+fn run(rt: &HostRuntime) -> io::Result<()> {
+    for state in [
+        Session::fresh().state,
+        State::Handshake,
+        State::PinWait,
+        State::ReadyWait,
+        State::Projecting,
+        State::Closed,
+    ] {
+        for event in 0..=11 {
+            event_lines(rt, state, event)?;
+        }
+    }
+    Ok(())
+}
+
+// Where its lines can't be written the program ends as ever, with status 0.
+fn main(rt: HostRuntime) {
+    run(&rt).ok();
 }

@@ -3,6 +3,7 @@ ghost use Rattle.std.specs.Prelude.{◌≡◌, length, replicate};
 ghost use Rattle.scan.specs.Bytes.{copied};
 
 // Copies `from` over the first places of `to`, as far as both go.
+#[inline(never)]
 #[tactic(auto, unfolding(crate::specs::Bytes::copied))]
 pub fn copy(to: &mut [u8], from: &[u8])
     ensures { to.new ≡ copied from.now to.old }

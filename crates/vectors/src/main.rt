@@ -13,16 +13,20 @@ mod messages;
 mod packets;
 
 use host_answers::Answer;
+use std::io;
 
 // What a reader refuses.
-pub fn refused(answer: Answer) {
-    print::field(b" refused", answer.status as u64);
-    print::field(b" place", answer.place as u64);
-    print::text(b"\n");
+fn refused(rt: &HostRuntime, answer: Answer) -> io::Result<()> {
+    println!(rt; " refused {} place {}", answer.status, answer.place)
 }
 
-fn main() {
-    messages::run();
-    limits_line::run();
-    packets::run();
+fn run(rt: &HostRuntime) -> io::Result<()> {
+    messages::run(rt)?;
+    limits_line::run(rt)?;
+    packets::run(rt)
+}
+
+// Where its lines can't be written the program ends as ever, with status 0.
+fn main(rt: HostRuntime) {
+    run(&rt).ok();
 }

@@ -1,123 +1,103 @@
 // The cursor packets of 003 section 4: a position, and a shape of 512 bytes in a start and a continuation. The document prints no RTP headers and
 // no image: here the sequence numbers are 0, 1 and 2, and the halves of the image are 65 and 66. Then positions with timestamp and SSRC filled
 // (02 §2).
+use cursor_host::Host;
 use cursor_layout::{picture_layout, pointer_layout};
-use scan::bytes;
+use host_answers::Yes;
+use std::io;
 
-fn show_pointer(record: &[u8]) {
-    let pointer = pointer_layout::read(record);
-    print::text(b" x");
-    print::signed(pointer.x);
-    print::text(b" y");
-    print::signed(pointer.y);
+fn pointer(rt: &HostRuntime, host: &Host<512>) -> io::Result<()> {
+    let pointer = pointer_layout::read(&host.pointer);
+    print!(rt; " accepted x {} y {}", pointer.x, pointer.y)
 }
 
-fn show_picture(record: &[u8]) {
-    let picture = picture_layout::read(record);
+fn picture(rt: &HostRuntime, host: &Host<512>) -> io::Result<()> {
+    let picture = picture_layout::read(&host.picture);
     let start = picture.start;
-    print::field(b" id", picture.id as u64);
-    print::field(b" total", picture.total as u64);
-    print::field(b" type", start.image_type as u64);
-    print::field(b" hot spot", start.hot_x as u64);
-    print::number(start.hot_y as u64);
+    print!(rt;
+        " id {} total {} type {}",
+        picture.id, picture.total, start.image_type
+    )?;
+    print!(rt; " hot spot {} {}", start.hot_x, start.hot_y)
 }
 
-fn refused(status: u8) {
-    print::field(b" refused", status as u64);
-    print::text(b"\n");
-}
-
-fn position(pointer: &mut [u8], packet: &[u8]) {
-    let answer = cursor_calls::position(pointer, packet);
+fn position(rt: &HostRuntime, name: &str, host: &mut Host<512>, packet: &[u8]) -> io::Result<()> {
+    print!(rt; "{name}")?;
+    let answer = host.position(packet);
     if answer.status != 0 {
-        refused(answer.status);
-        return;
+        return println!(rt; " refused {}", answer.status);
     }
-    print::text(b" accepted");
-    show_pointer(pointer);
-    print::text(b"\n");
+    pointer(rt, host)?;
+    println!(rt; "")
 }
 
-fn show_complete(picture: &[u8], image: &[u8], marks: &[u8]) {
-    let answer = cursor_calls::complete(picture, image, marks);
-    if answer.status != 0 {
-        refused(answer.status);
-    } else if answer.yes {
-        print::text(b" complete yes\n");
-    } else {
-        print::text(b" complete no\n");
+fn complete(rt: &HostRuntime, host: &Host<512>) -> io::Result<()> {
+    match host.complete() {
+        Yes {
+            status: 0,
+            yes: true,
+        } => println!(rt; " complete yes"),
+        Yes {
+            status: 0,
+            yes: false,
+        } => println!(rt; " complete no"),
+        Yes { status, yes: _ } => println!(rt; " refused {status}"),
     }
 }
 
-fn store(
-    pointer: &mut [u8],
-    picture: &mut [u8],
-    packet: &[u8],
-    image: &mut [u8],
-    marks: &mut [u8],
-) {
-    let answer = cursor_calls::store(pointer, picture, packet, image, marks);
+fn store(rt: &HostRuntime, name: &str, host: &mut Host<512>, packet: &[u8]) -> io::Result<()> {
+    print!(rt; "{name}")?;
+    let answer = host.store(packet);
     if answer.status != 0 {
-        refused(answer.status);
-        return;
+        return println!(rt; " refused {}", answer.status);
     }
-    print::text(b" accepted");
-    show_pointer(pointer);
-    show_picture(picture);
-    show_complete(picture, image, marks);
+    pointer(rt, host)?;
+    picture(rt, host)?;
+    complete(rt, host)
 }
 
 // 003's packets, each in its line.
-fn printed() {
-    let mut pointer = [0u8; pointer_layout::LENGTH];
-    let mut picture = [0u8; picture_layout::LENGTH];
-    cursor_calls::pointer_fresh(&mut pointer);
-    cursor_calls::picture_fresh(&mut picture);
-    let mut image = [0u8; 512];
-    let mut marks = [0u8; 512];
-    print::text(b"003-4-position");
-    position(
-        &mut pointer,
-        b"\x80\x00\x00\x00\x00\x00\x00\x00\x00\x00\x00\x00\x01\x00\x07\x00\x0c\x00\x0a",
-    );
-    let mut first = [65u8; 286];
-    bytes::copy(
-        &mut first,
+fn printed(rt: &HostRuntime) -> io::Result<()> {
+    let mut host = Host::new(0, 0);
+    let packet = b"\x80\x00\x00\x00\x00\x00\x00\x00\x00\x00\x00\x00\x01\x00\x07\x00\x0c\x00\x0a";
+    position(rt, "003-4-position", &mut host, packet)?;
+    let mut first = [65; 286];
+    first[..30].copy_from_slice(
         b"\x80\x00\x00\x01\x00\x00\x00\x00\x00\x00\x00\x00\x02\x01\x12\x00\x00\x02\x00\x12\x34\x00\x0c\x00\x0a\x03\x00\x12\x00\x0f",
     );
-    print::text(b"003-4-start");
-    store(&mut pointer, &mut picture, &first, &mut image, &mut marks);
-    let mut second = [66u8; 281];
-    bytes::copy(
-        &mut second,
+    store(rt, "003-4-start", &mut host, &first)?;
+    let mut second = [66; 281];
+    second[..25].copy_from_slice(
         b"\x80\x00\x00\x02\x00\x00\x00\x00\x00\x00\x00\x00\x03\x01\x0d\x00\x00\x02\x00\x12\x34\x00\x00\x01\x00",
     );
-    print::text(b"003-4-continuation");
-    store(&mut pointer, &mut picture, &second, &mut image, &mut marks);
-}
-
-// A position on a fresh pointer.
-fn fresh_position(packet: &[u8]) {
-    let mut pointer = [0u8; pointer_layout::LENGTH];
-    cursor_calls::pointer_fresh(&mut pointer);
-    position(&mut pointer, packet);
+    store(rt, "003-4-continuation", &mut host, &second)
 }
 
 // 02 §2: timestamp and SSRC are ignored, the first two bytes are judged, and fewer than 15 bytes are 1 before that.
-fn filled() {
-    let packet = b"\x80\x00\x00\x05\x11\x22\x33\x44\xaa\xbb\xcc\xdd\x01\x00\x07\xff\xfe\x00\x0a";
-    print::text(b"02-2-fields-filled");
-    fresh_position(packet);
-    print::text(b"02-2-first-byte-81");
-    fresh_position(b"\x81\x00\x00\x05\x11\x22\x33\x44\xaa\xbb\xcc\xdd\x01\x00\x07\xff\xfe\x00\x0a");
-    print::text(b"02-2-first-14-bytes");
-    fresh_position(b"\x80\x00\x00\x05\x11\x22\x33\x44\xaa\xbb\xcc\xdd\x01\x00");
-    print::text(b"02-2-second-byte-01");
-    fresh_position(b"\x80\x01\x00\x05\x11\x22\x33\x44\xaa\xbb\xcc\xdd\x01\x00\x07\xff\xfe\x00\x0a");
-}
+const FILLED: [(&str, &[u8]); 4] = [
+    (
+        "02-2-fields-filled",
+        b"\x80\x00\x00\x05\x11\x22\x33\x44\xaa\xbb\xcc\xdd\x01\x00\x07\xff\xfe\x00\x0a",
+    ),
+    (
+        "02-2-first-byte-81",
+        b"\x81\x00\x00\x05\x11\x22\x33\x44\xaa\xbb\xcc\xdd\x01\x00\x07\xff\xfe\x00\x0a",
+    ),
+    (
+        "02-2-first-14-bytes",
+        b"\x80\x00\x00\x05\x11\x22\x33\x44\xaa\xbb\xcc\xdd\x01\x00",
+    ),
+    (
+        "02-2-second-byte-01",
+        b"\x80\x01\x00\x05\x11\x22\x33\x44\xaa\xbb\xcc\xdd\x01\x00\x07\xff\xfe\x00\x0a",
+    ),
+];
 
-// Each packet in its line.
-pub fn run() {
-    printed();
-    filled();
+// Each packet in its line; the filled ones each on a fresh pointer.
+pub fn run(rt: &HostRuntime) -> io::Result<()> {
+    printed(rt)?;
+    for (name, packet) in FILLED {
+        position(rt, name, &mut Host::new(0, 0), packet)?;
+    }
+    Ok(())
 }

@@ -1,5 +1,5 @@
 -- Parts of the buffer. Assumes nothing.
-use Rattle.std.proofs.Common.{◌≡◌, ℕ, ◌-◌, ◌≤◌, ltb, List, length, take, drop, ◌∙◌, ⊎_elim, arith, length-take, length-take-le, get_or-drop, get_or-take, take_at, ltb-false, ltb-true}
+use Rattle.std.proofs.Common.{◌≡◌, ℕ, ◌≤◌, ltb, List, length, take, drop, ◌∙◌, ⊎_elim, arith, length-take, length-take-le, get_or-drop, get_or-take, take_at, ltb-false, ltb-true}
 use borrow.Rule.Slice.PartMut.{put_mid}
 use lib.ListN.{get_or-eq_default}
 use Rattle.wire.specs.Number.{Bytes}
@@ -18,6 +18,5 @@ part_bytes s from n b i =
 
 -- what is put after the front leaves it
 pub front_kept
-    : (ds : List ℕ) (at k : ℕ) (xs ys : List ℕ) → at ≡ k → at ≤ length xs → take at xs ≡ take at ys
-    → take k (put_mid at (length xs - at) xs ds) ≡ take k ys
-front_kept ds at k xs ys e h same = rw (← e) (take_at (take at xs) _ at (length-take-le at xs h) ∙ same)
+    : (ds : List ℕ) (at k n : ℕ) (xs ys : List ℕ) → at ≡ k → at ≤ length xs → take at xs ≡ take at ys → take k (put_mid at n xs ds) ≡ take k ys
+front_kept ds at k n xs ys e h same = rw (← e) (take_at (take at xs) _ at (length-take-le at xs h) ∙ same)

@@ -1,5 +1,5 @@
 -- Lines one after the other. Assumes nothing.
-use Rattle.std.proofs.Common.{◌≡◌, ℕ, ◌+◌, ◌-◌, ◌<◌, Bool, true, false, cond, List, [], ◌++◌, length, take, drop, sym, refl, subst, append-nil, arith, length-drop, length-take-le, leb-false}
+use Rattle.std.proofs.Common.{◌≡◌, ℕ, ◌+◌, ◌-◌, ◌<◌, Bool, true, false, cond, is_some, List, [], ◌++◌, length, take, drop, sym, refl, subst, append-nil, arith, length-drop, length-take-le, leb-false}
 use Rattle.wire.proofs.Laws.Bool.{not_both}
 use Rattle.message_recording.specs.declared.line.Line.{Line}
 use Rattle.message_recording.specs.declared.line.Line.TheVariants as line
@@ -36,11 +36,11 @@ lines_more {buf} {before} {out} {after} {st} {mid} {r} l d e p =
 
 -- what is left to do: the bytes that are not listed yet, and one more while the listing goes on
 abbrev pub left : State → ℕ
-left st = cond st.going 1 0 + (st.to - st.from)
+left st = cond (is_some st.verdict) 0 1 + (st.to - st.from)
 
 -- a line leaves less
 after_less
-    : (st : State) (s : List ℕ) (x : Line) (used : ℕ) → line_of s ≡ x → st.going ≡ true → st.from + length s ≡ st.to
+    : (st : State) (s : List ℕ) (x : Line) (used : ℕ) → line_of s ≡ x → is_some st.verdict ≡ false → st.from + length s ≡ st.to
     → left (state_after st x used) < left st
 after_less st s (line.Message c n) used e g h = let w = message_size s c n e in rw g (omega (arith, w.0, w.1))
 after_less st s (line.Refused x) used e g h = rw g (omega arith)
@@ -64,7 +64,7 @@ undecided_room buf out st w b e =
     omega (arith, unlisted_length buf out st w, w.large)
 
 pub line_less
-    : (buf out : List ℕ) (st r : State) → Within buf out st → st.going ≡ true → r ≡ state_after st (line_of (unlisted buf st)) r.used
+    : (buf out : List ℕ) (st r : State) → Within buf out st → is_some st.verdict ≡ false → r ≡ state_after st (line_of (unlisted buf st)) r.used
     → left r < left st
 line_less buf out st r w g e =
     let s = unlisted buf st in

@@ -1,5 +1,5 @@
 -- Each line is put after the others, and leaves less to do. Assumes nothing.
-use Rattle.std.proofs.Common.{sym, refl, ◌∙◌, arith}
+use Rattle.std.proofs.Common.{sym, refl, not, ap, ◌∙◌, arith}
 use Rattle.wire.proofs.Laws.Bool.{not_both}
 use Rattle.listing.proofs.Laws.Lines.{lines_none, lines_more, line_less}
 use Rattle.listing.proofs.show_lines.Goals as goal
@@ -19,7 +19,7 @@ returns-then-not-is_decided c =
     record { within = l.0; lines = l.2; all = λ g r. sym c.is_decided.ensures ∙ c.if-not-is_decided.true }
 
 pub loop-state-smaller : goal.loop-state-smaller
-loop-state-smaller c = line_less _ _ c.loop-state.state c.show-state.result c.loop-state.invariant.0 c.loop-state-test.true c.show-state.ensures.state
+loop-state-smaller c = line_less _ _ c.loop-state.state c.show-state.result c.loop-state.invariant.0 (c.is_none.ensures ∙ ap not c.loop-state-test.true) c.show-state.ensures.state
 
 pub loop-state-preserved : goal.loop-state-preserved
 loop-state-preserved c =
@@ -40,4 +40,4 @@ loop-state-preserved c =
 pub returns : goal.returns
 returns c =
     let l = c.loop-state.invariant in
-    record { within = l.0; lines = l.2; all = λ g r. not_both _ g c.loop-state-test.false }
+    record { within = l.0; lines = l.2; all = λ g r. not_both _ (c.is_none.ensures ∙ ap not c.loop-state-test.false) g }
