@@ -1,5 +1,5 @@
 // The unsigned numbers that stand in bytes: of one, two and four bytes.
-ghost use Rattle.std.specs.Prelude.{◌≡◌, ℕ, ◌^◌, ◌<◌, ◌≤◌};
+ghost use Rattle.std.specs.Prelude.{◌≡◌, ℕ, ◌%◌, ◌^◌, ◌≤◌};
 ghost use Rattle.std.proofs.Common.{rules};
 
 pub trait Unsigned: Copy {
@@ -11,10 +11,9 @@ pub trait Unsigned: Copy {
 
     const WIDTH: usize;
 
-    // The value of a number that so many bytes can hold.
+    // The value of a number; what so many bytes can't hold of it is left out.
     fn narrow(number: u32) -> Self
-        requires { number < 256 ^ WIDTH }
-        ensures { value result ≡ number };
+        ensures { value result ≡ number % 256 ^ WIDTH };
 
     // The number of a value.
     fn widen(self) -> u32
@@ -33,7 +32,7 @@ impl Unsigned for u8 {
     const WIDTH: usize = 1;
 
     fn narrow(number: u32) -> u8 {
-        number as u8
+        (number % 256) as u8
     }
 
     fn widen(self) -> u32 {
@@ -51,7 +50,7 @@ impl Unsigned for u16 {
     const WIDTH: usize = 2;
 
     fn narrow(number: u32) -> u16 {
-        number as u16
+        (number % 65536) as u16
     }
 
     fn widen(self) -> u32 {
