@@ -32,16 +32,14 @@ pub enum PositionAnswer {
 }
 
 // The position whose x and y stand at these places of a packet, with the packet's sequence number.
+#[tactic(auto, unfolding(crate::specs::Position::position_at, crate::specs::Rtp::rtp_of))]
 pub fn at(packet: &[u8], x: usize, y: usize) -> Position
     ensures { result ≡ position_at x y packet.now }
 {
-    let rtp = rtp::read(packet);
-    let across = signed::signed16(number::u16_at(packet, x));
-    let down = signed::signed16(number::u16_at(packet, y));
     Position {
-        sequence: rtp.sequence,
-        x: across,
-        y: down,
+        sequence: rtp::read(packet).sequence,
+        x: signed::signed16(number::u16_at(packet, x)),
+        y: signed::signed16(number::u16_at(packet, y)),
     }
 }
 
@@ -82,6 +80,7 @@ pub fn check(packet: &[u8]) -> Status
 }
 
 // The position packet, or its refusal.
+#[tactic(auto, unfolding(crate::specs::Position::read_position))]
 pub fn read(packet: &[u8]) -> PositionAnswer
     ensures { result ≡ read_position packet.now }
 {
