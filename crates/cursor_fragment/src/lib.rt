@@ -15,7 +15,7 @@
 pub mod continuation;
 pub mod start;
 
-ghost use Rattle.std.specs.Prelude.{◌≡◌, min};
+ghost use Rattle.std.specs.Prelude.{◌≡◌};
 ghost use Rattle.wire.specs.Number.{number};
 ghost use Rattle.wire.specs.Signed.{signed};
 ghost use Rattle.wire.specs.Checks.{first_of};
@@ -64,16 +64,14 @@ pub fn is_start(packet: &[u8]) -> bool
 }
 
 // Whether a packet's type is that of a start or of a continuation.
+#[tactic(auto, unfolding(crate::specs::Fragment::takes_type))]
 fn is_taken(packet: &[u8]) -> bool
     ensures { result ≡ takes_type (type_of packet.now) }
 {
-    let kind = number::u8_at(packet, 12);
-    if kind == Start::TYPE {
-        return true;
-    }
-    kind == Continuation::TYPE
+    matches!(number::u8_at(packet, 12), Start::TYPE | Continuation::TYPE)
 }
 
+#[tactic(auto, unfolding(crate::specs::Fragment::header_length))]
 fn header(starts: bool) -> usize
     ensures { result ≡ header_length starts }
 {
@@ -96,26 +94,17 @@ pub fn image_data(packet: &[u8], starts: bool) -> &[u8]
     }
 }
 
-// The lesser of two numbers.
-fn least(a: usize, b: usize) -> usize
-    ensures { result ≡ min a b }
-{
-    if a < b { a } else { b }
-}
-
 // Whether the offset whose two's complement is `place` is negative, which is `place` above 2,147,483,647, or offset plus data goes beyond
 // the total. One comparison with the lesser of the two limits: it needs the number as a whole.
 fn is_outside(place: u32, length: usize, total: u32) -> bool
     ensures { result ≡ outside (signed 4 place) length total }
 {
     let end = total as usize;
-    if end < length {
-        return true;
-    }
-    least(end - length, 2147483647) < place as usize
+    end < length || (end - length).min(2147483647) < place as usize
 }
 
 // The offset's four bytes as a number: 0 for a start.
+#[tactic(auto, unfolding(crate::specs::Fragment::offset_bits))]
 fn offset_bits(packet: &[u8], starts: bool) -> u32
     ensures { result ≡ offset_bits starts packet.now }
 {
@@ -126,42 +115,42 @@ fn offset_bits(packet: &[u8], starts: bool) -> u32
 }
 
 // The fields of a fragment whose total and offset have been read.
+#[tactic(auto, unfolding(crate::specs::Fragment::fragment_as, cursor_packet::specs::Rtp::rtp_of))]
 fn fields(packet: &[u8], starts: bool, total: u32, place: u32) -> Fragment
     requires { (total ≡ number 4 packet.now 15) × (place ≡ place_of (offset_of starts packet.now)) }
     ensures { result ≡ fragment_as starts packet.now }
 {
-    let rtp = rtp::read(packet);
-    let own = start::read(packet, starts);
     Fragment {
-        sequence: rtp.sequence,
-        total: total,
+        sequence: rtp::read(packet).sequence,
+        total,
         id: number::u16_at(packet, 19),
         offset: place,
-        starts: starts,
-        start: own,
+        starts,
+        start: start::read(packet, starts),
     }
 }
 
 // What stands in a fragment's place where the packet is refused.
+#[tactic(auto, unfolding(crate::specs::Parsing::no_fragment))]
 fn no_fragment() -> Fragment
     ensures { result ≡ no_fragment }
 {
-    let none = Start::none();
     Fragment {
         sequence: 0,
         total: 0,
         id: 0,
         offset: 0,
         starts: false,
-        start: none,
+        start: Start::none(),
     }
 }
 
+#[tactic(auto, unfolding(crate::specs::Parsing::refused_as))]
 fn refused(status: Status) -> Parsed
     ensures { result ≡ refused_as status }
 {
     Parsed {
-        status: status,
+        status,
         fragment: no_fragment(),
     }
 }
