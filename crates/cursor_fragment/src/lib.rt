@@ -83,15 +83,11 @@ fn header(starts: bool) -> usize
 }
 
 // The image data: what follows the header of a start or of a continuation.
+#[tactic(auto, using(crate::proofs::Laws::Fragment::header_small), unfolding(crate::specs::Fragment::image_data, crate::specs::Fragment::header_length))]
 pub fn image_data(packet: &[u8], starts: bool) -> &[u8]
     ensures { result.now ≡ image_data starts packet.now }
 {
-    let from = Rtp::HEADER + header(starts);
-    if from <= packet.len() {
-        &packet[from..]
-    } else {
-        &packet[..0]
-    }
+    packet.get(Rtp::HEADER + header(starts)..).unwrap_or(&[])
 }
 
 // Whether the offset whose two's complement is `place` is negative, which is `place` above 2,147,483,647, or offset plus data goes beyond

@@ -14,6 +14,7 @@ pub enum CompleteAnswer {
 }
 
 // The place of the first empty mark below the total, or the total where each is filled.
+#[tactic(auto, unfolding(crate::specs::Completeness::first_empty_of))]
 fn first_empty(marks: &[u8], total: usize) -> usize
     requires { total ≤ length marks.now }
     ensures { result ≡ first_empty_of marks.now total }
@@ -22,6 +23,7 @@ fn first_empty(marks: &[u8], total: usize) -> usize
 }
 
 // Whether a start of the opened picture was seen and every place is filled; with no picture opened, no.
+#[tactic(auto, unfolding(crate::specs::Completeness::completeness, crate::specs::Picture::held, crate::specs::Picture::has_room))]
 pub fn complete(picture: Picture, image: &[u8], marks: &[u8]) -> CompleteAnswer
     ensures { result ≡ completeness picture (length image.now) marks.now }
 {
@@ -31,13 +33,10 @@ pub fn complete(picture: Picture, image: &[u8], marks: &[u8]) -> CompleteAnswer
             place: 0,
         };
     }
-    if picture.opened {
-        if picture.seen {
-            let total = picture.total as usize;
-            if first_empty(marks, total) == total {
-                return CompleteAnswer::Yes;
-            }
-        }
+    let total = picture.total as usize;
+    if picture.opened && picture.seen && first_empty(marks, total) == total {
+        CompleteAnswer::Yes
+    } else {
+        CompleteAnswer::No
     }
-    CompleteAnswer::No
 }

@@ -19,6 +19,7 @@ pub struct Pointer {
 
 impl Pointer {
     // No position is known.
+    #[tactic(auto, unfolding(crate::specs::Pointer::fresh_pointer))]
     pub fn fresh() -> Pointer
         ensures { result ≡ fresh_pointer }
     {
@@ -45,15 +46,16 @@ pub enum PointerAnswer {
 }
 
 // The pointer after a packet with this sequence number and position: set if the packet is newer, else as it was.
+#[tactic(auto, unfolding(crate::specs::Pointer::moved_to))]
 pub fn moved(pointer: Pointer, sequence: u16, x: i16, y: i16) -> Pointer
     ensures { result ≡ moved_to pointer sequence x y }
 {
     if sequence::newer(pointer.known, pointer.sequence, sequence) {
         return Pointer {
             known: true,
-            sequence: sequence,
-            x: x,
-            y: y,
+            sequence,
+            x,
+            y,
         };
     }
     pointer
@@ -66,8 +68,8 @@ pub fn take(pointer: Pointer, packet: &[u8]) -> Positioned
     let status = position::check(packet);
     if status::number(status) != 0 {
         return Positioned {
-            status: status,
-            pointer: pointer,
+            status,
+            pointer,
         };
     }
     let position = position::fields(packet);
@@ -79,7 +81,7 @@ pub fn take(pointer: Pointer, packet: &[u8]) -> Positioned
     } else {
         Positioned {
             status: Status::NotNewer,
-            pointer: pointer,
+            pointer,
         }
     }
 }
@@ -95,7 +97,7 @@ pub fn position(pointer: Pointer, packet: &[u8]) -> PointerAnswer
         PointerAnswer::Accepted(moved)
     } else {
         PointerAnswer::Refused {
-            status: status,
+            status,
             place: 0,
         }
     }
