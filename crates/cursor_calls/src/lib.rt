@@ -19,6 +19,7 @@ use wire::status;
 use wire::status::Status;
 
 // Writes that no position is known.
+#[tactic(auto, unfolding(cursor_layout::specs::PointerLayout::pointer_bytes, cursor_pointer::specs::Pointer::fresh_pointer, wire::specs::Signed::unsigned, wire::specs::Number::bytes_in))]
 pub fn pointer_fresh(pointer: &mut [u8]) -> u8
     ensures answer { result ≡ fresh_answer pointer_length (length pointer.old) }
     ensures bytes { pointer.new ≡ laid (pointer_bytes fresh_pointer) pointer.old }
@@ -27,6 +28,7 @@ pub fn pointer_fresh(pointer: &mut [u8]) -> u8
 }
 
 // Writes that no picture is opened.
+#[tactic(auto, unfolding(cursor_layout::specs::PictureLayout::picture_bytes, cursor_layout::specs::PictureLayout::start_bytes, cursor_picture::specs::Picture::fresh_picture, cursor_fragment::specs::Start::no_start, wire::specs::Number::bytes_in))]
 pub fn picture_fresh(picture: &mut [u8]) -> u8
     ensures answer { result ≡ fresh_answer picture_length (length picture.old) }
     ensures bytes { picture.new ≡ laid (picture_bytes fresh_picture) picture.old }
@@ -52,24 +54,22 @@ pub fn position(pointer: &mut [u8], packet: &[u8]) -> Answer
 }
 
 // Whether the records, of so many bytes, have all of their own.
+#[tactic(auto, unfolding(crate::specs::CursorCalls::records_whole))]
 fn are_whole(pointer: usize, picture: usize) -> bool
     ensures { result ≡ records_whole pointer picture }
 {
-    if pointer < pointer_layout::LENGTH {
-        return false;
-    }
-    picture_layout::LENGTH <= picture
+    pointer_layout::LENGTH <= pointer && picture_layout::LENGTH <= picture
 }
 
 // Moves the pointer in its record where the accepted packet does; else each byte of the record stays, also of a flag that is neither 0 nor 1.
+#[tactic(auto, unfolding(crate::specs::CursorCalls::pointer_left))]
 fn move_pointer(pointer: &mut [u8], packet: &[u8])
     ensures { pointer.new ≡ pointer_left packet.now (pointer_after (pointer_of pointer.old) packet.now) pointer.old }
 {
     let before = pointer_layout::read(pointer);
-    if !storing::moves(before, packet) {
-        return;
+    if storing::moves(before, packet) {
+        pointer_layout::write(pointer, storing::moved_by(before, packet));
     }
-    pointer_layout::write(pointer, storing::moved_by(before, packet));
 }
 
 // The call for starts and continuations. A record is written only where it changes, and the pointer's is read only for a fragment that is
@@ -116,6 +116,7 @@ fn answered(answer: CompleteAnswer) -> Yes
 }
 
 // Whether the opened picture is complete: a start of it was seen, and every place is filled.
+#[tactic(auto, unfolding(crate::specs::CursorCalls::cursor_complete))]
 pub fn complete(picture: &[u8], image: &[u8], marks: &[u8]) -> Yes
     ensures { result ≡ cursor_complete picture.now image.now marks.now }
 {

@@ -21,6 +21,7 @@ use wire::little_endian::{put_u8, put_u16, put_u32, u8_at, u16_at, u32_at};
 pub const LENGTH: usize = 15;
 
 // The picture in the bytes.
+#[tactic(auto, unfolding(crate::specs::PictureLayout::picture_of))]
 pub fn read(record: &[u8]) -> Picture
     ensures { result ≡ picture_of «record».now }
 {
@@ -56,20 +57,19 @@ pub fn write(record: &mut [u8], picture: Picture)
     if record.len() < LENGTH {
         return;
     }
-    let start = picture.start;
     put_u8(record, 0, picture.opened as u8);
     put_u16(record, 1, picture.id);
     put_u32(record, 3, picture.total);
     put_u16(record, 7, picture.opening);
-    write_start(record, picture.seen, start);
+    write_start(record, picture.seen, picture.start);
 }
 
 // Writes the picture where it is another than the one before; else each byte of the record stays, also of a flag that is neither 0 nor 1.
+#[tactic(auto, unfolding(crate::specs::PictureLayout::picture_left, cursor_picture::specs::Picture::same_picture, cursor_fragment::specs::Start::same_start))]
 pub fn change(record: &mut [u8], before: Picture, after: Picture)
     ensures { «record».new ≡ picture_left before after «record».old }
 {
-    if cursor_picture::same(before, after) {
-        return;
+    if before != after {
+        write(record, after);
     }
-    write(record, after);
 }

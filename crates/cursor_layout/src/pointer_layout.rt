@@ -16,6 +16,7 @@ use wire::signed::{signed16, unsigned16};
 pub const LENGTH: usize = 7;
 
 // The pointer in the bytes.
+#[tactic(auto, unfolding(crate::specs::PointerLayout::pointer_of))]
 pub fn read(record: &[u8]) -> Pointer
     ensures { result ≡ pointer_of «record».now }
 {

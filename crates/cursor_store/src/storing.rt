@@ -35,22 +35,23 @@ pub enum StoreAnswer {
 }
 
 // The record of a picture that this fragment opens.
+#[tactic(auto, unfolding(crate::specs::Assembling::opened_by))]
 fn opened_by(fragment: Fragment) -> Picture
     ensures { result ≡ opened_by fragment }
 {
-    let none = Start::none();
     Picture {
         opened: true,
         id: fragment.id,
         total: fragment.total,
         opening: fragment.sequence,
         seen: false,
-        start: none,
+        start: Start::none(),
     }
 }
 
 // Opens a picture if the fragment is of another id than the opened one: the marks of its places become 0. Answers the record of the
 // picture that the fragment belongs to.
+#[tactic(auto, unfolding(crate::specs::Assembling::opened_for, crate::specs::Assembling::cleared_for, wire::specs::Splice::splice))]
 fn open_for(picture: Picture, fragment: Fragment, marks: &mut [u8]) -> Picture
     requires { fragment.total ≤ length marks.old }
     ensures record { result ≡ opened_for picture fragment }
@@ -66,6 +67,7 @@ fn open_for(picture: Picture, fragment: Fragment, marks: &mut [u8]) -> Picture
 
 // Stores the data at its offset, and marks the places that it covers. The part of the picture from the offset, of the data's length, is
 // lent on.
+#[tactic(auto, using(scan::proofs::Laws::Bytes::copied_all, wire::proofs::Laws::Splice::part_back), unfolding(wire::specs::Splice::splice))]
 fn put(offset: u32, data: &[u8], image: &mut [u8], marks: &mut [u8])
     requires { (offset + length «data».now ≤ length image.old) × (offset + length «data».now ≤ length marks.old) }
     ensures bytes { image.new ≡ splice offset «data».now image.old }
@@ -78,24 +80,23 @@ fn put(offset: u32, data: &[u8], image: &mut [u8], marks: &mut [u8])
 }
 
 // The record after a fragment: a start's own fields, if it is one.
+#[tactic(auto, unfolding(crate::specs::Assembling::with_start))]
 fn with_start(picture: Picture, fragment: Fragment) -> Picture
     ensures { result ≡ with_start fragment picture }
 {
     if fragment.starts {
-        let own = fragment.start;
-        return Picture {
-            opened: picture.opened,
-            id: picture.id,
-            total: picture.total,
-            opening: picture.opening,
+        Picture {
             seen: true,
-            start: own,
-        };
+            start: fragment.start,
+            ..picture
+        }
+    } else {
+        picture
     }
-    picture
 }
 
 // Judges a fragment, and stores it if it is accepted.
+#[tactic(auto, using(crate::proofs::Laws::Judging::judged_room), unfolding(crate::specs::Assembling::fragment_assembled, crate::specs::Assembling::assembled_as, crate::specs::Assembling::image_after, crate::specs::Assembling::marks_after, crate::specs::Assembling::picture_after))]
 fn take(
     picture: Picture,
     fragment: Fragment,
@@ -146,17 +147,15 @@ pub fn assemble(picture: Picture, packet: &[u8], image: &mut [u8], marks: &mut [
 }
 
 // Whether an accepted packet moves the pointer: a start that is newer.
+#[tactic(auto, unfolding(crate::specs::Storing::moves))]
 pub fn moves(pointer: Pointer, packet: &[u8]) -> bool
     ensures { result ≡ moves pointer packet.now }
 {
-    if cursor_fragment::is_start(packet) {
-        let position = start::position(packet);
-        return sequence::newer(pointer.known, pointer.sequence, position.sequence);
-    }
-    false
+    cursor_fragment::is_start(packet) && sequence::newer(pointer.known, pointer.sequence, start::position(packet).sequence)
 }
 
 // The pointer's part: moved by an accepted packet that is a newer start.
+#[tactic(auto, unfolding(crate::specs::Storing::pointer_after))]
 pub fn moved_by(pointer: Pointer, packet: &[u8]) -> Pointer
     ensures { result ≡ pointer_after pointer packet.now }
 {
@@ -168,6 +167,7 @@ pub fn moved_by(pointer: Pointer, packet: &[u8]) -> Pointer
 }
 
 // The call for starts and continuations, which takes types 2 and 3 only: the picture's part and then the pointer's. A refusal changes no byte.
+#[tactic(auto, unfolding(crate::specs::Storing::stored))]
 pub fn store(
     pointer: Pointer,
     picture: Picture,
