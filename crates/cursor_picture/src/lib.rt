@@ -11,7 +11,8 @@ ghost use Rattle.cursor_picture.specs.Picture.{fresh_picture, same_picture, has_
 pub use completeness::complete;
 use cursor_fragment::start::Start;
 
-// Where no picture is opened the other fields are not looked at; where no start was seen the start fields are not.
+// Where no picture is opened the other fields are not looked at; where no start was seen the start fields are not. Flags and no Option, since a
+// host's record may hold any bytes beside a flag of 0, and they read back (`cursor_layout PictureReadsBack`).
 #[derive(Clone, Copy, PartialEq, Eq)]
 pub struct Picture {
     pub opened: bool,

@@ -9,6 +9,7 @@ use wire::status::Status;
 use wire::{sequence, status};
 
 // The pointer's last position, and the sequence number of the packet that set it. Where none is known the other fields are not looked at.
+// A flag and no Option, since a host's record may hold any bytes beside a flag of 0, and they read back (`cursor_layout PointerReadsBack`).
 #[derive(Clone, Copy)]
 pub struct Pointer {
     pub known: bool,
