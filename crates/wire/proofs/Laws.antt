@@ -2,7 +2,6 @@ pub mod Below
 pub mod Bool
 pub mod Bytes
 pub mod Checks
-pub mod Count
 pub mod Digits
 pub mod Laid
 pub mod Layout

@@ -7,4 +7,4 @@ mod order;
 pub mod sequence;
 pub mod signed;
 pub mod status;
-pub mod written;
+pub mod unsigned;

@@ -1,8 +1,9 @@
-// Numbers of one, two and four bytes, the most significant byte first (01: "All numbers on the wire are big-endian").
+// Numbers in bytes, the most significant byte first (01: "All numbers on the wire are big-endian").
 ghost use Rattle.std.specs.Prelude.{◌≡◌, ◌+◌, ◌^◌, ◌<◌, ◌≤◌, length, nat_le, slice_index};
 ghost use Rattle.wire.specs.Number.{number, written};
 
 use crate::order;
+use crate::unsigned::Unsigned;
 
 // The byte k places after `at`, or 0 past the end.
 fn byte(s: &[u8], at: usize, k: usize) -> u8
@@ -22,17 +23,15 @@ fn padded(s: &[u8], at: usize, n: usize) -> u32
     ensures { (result ≡ number n s.now at) × (result < 256 ^ n) }
 {
     let mut v: u32 = 0;
-    let mut k = 0;
-    while k < n {
+    for k in 0..n {
         let b = byte(s, at, k) as u32;
         v = 256 * v + b;
-        k += 1;
     }
     v
 }
 
-// The number in the n bytes from `at`: the reading that every width shares. One test finds whether all of them are there.
-fn read(s: &[u8], at: usize, n: usize) -> u32
+// The same, where they mostly are all there: one test finds whether they are.
+fn read_bytes(s: &[u8], at: usize, n: usize) -> u32
     requires { n ≤ 4 }
     ensures { (result ≡ number n s.now at) × (result < 256 ^ n) }
 {
@@ -44,47 +43,17 @@ fn read(s: &[u8], at: usize, n: usize) -> u32
     padded(s, at, n)
 }
 
-// The number in the byte at `at`, or 0 past the end.
-pub fn u8_at(s: &[u8], at: usize) -> u8
-    ensures { result ≡ number 1 s.now at }
+// The number in the bytes from `at`, as many as its type has; a byte past the end counts as 0.
+pub fn read<N: Unsigned>(s: &[u8], at: usize) -> N
+    ensures { N.value result ≡ number N.WIDTH s.now at }
 {
-    read(s, at, 1) as u8
+    N::narrow(read_bytes(s, at, N::WIDTH))
 }
 
-// The number in the two bytes from `at`; a byte past the end counts as 0.
-pub fn u16_at(s: &[u8], at: usize) -> u16
-    ensures { result ≡ number 2 s.now at }
+// Writes v in the bytes from `at`, as many as its type has, and answers true; where they don't fit it answers false and changes nothing.
+pub fn write<N: Unsigned>(out: &mut [u8], at: usize, v: N) -> bool
+    ensures fits { result ≡ nat_le (at + N.WIDTH) (length out.old) }
+    ensures bytes { out.new ≡ written N.WIDTH (N.value v) at out.old }
 {
-    read(s, at, 2) as u16
-}
-
-// The number in the four bytes from `at`; a byte past the end counts as 0.
-pub fn u32_at(s: &[u8], at: usize) -> u32
-    ensures { result ≡ number 4 s.now at }
-{
-    read(s, at, 4)
-}
-
-// Writes v in the byte at `at` and answers true; past the end it answers false and changes nothing.
-pub fn put_u8(out: &mut [u8], at: usize, v: u8) -> bool
-    ensures fits { result ≡ nat_le (at + 1) (length out.old) }
-    ensures bytes { out.new ≡ written 1 v at out.old }
-{
-    order::write(true, out, at, 1, v as u32)
-}
-
-// Writes v in the two bytes from `at` and answers true; where they don't fit it answers false and changes nothing.
-pub fn put_u16(out: &mut [u8], at: usize, v: u16) -> bool
-    ensures fits { result ≡ nat_le (at + 2) (length out.old) }
-    ensures bytes { out.new ≡ written 2 v at out.old }
-{
-    order::write(true, out, at, 2, v as u32)
-}
-
-// Writes v in the four bytes from `at` and answers true; where they don't fit it answers false and changes nothing.
-pub fn put_u32(out: &mut [u8], at: usize, v: u32) -> bool
-    ensures fits { result ≡ nat_le (at + 4) (length out.old) }
-    ensures bytes { out.new ≡ written 4 v at out.old }
-{
-    order::write(true, out, at, 4, v)
+    order::write(true, out, at, N::WIDTH, v.widen())
 }

@@ -19,11 +19,9 @@ pub(crate) fn whole(big: bool, s: &[u8], at: usize, n: usize) -> u32
     ensures { (result ≡ number_in big n s.now at) × (result < 256 ^ n) }
 {
     let mut value: u32 = 0;
-    let mut k = 0;
-    while k < n {
+    for k in 0..n {
         let b = s[at + place(big, n, k)] as u32;
         value = 256 * value + b;
-        k += 1;
     }
     value
 }
@@ -40,9 +38,7 @@ pub(crate) fn write(big: bool, out: &mut [u8], at: usize, n: usize, v: u32) -> b
         return false;
     }
     let mut rest = v;
-    let mut k = n;
-    while 0 < k {
-        k -= 1;
+    for k in (0..n).rev() {
         out[at + place(big, n, k)] = (rest % 256) as u8;
         rest /= 256;
     }

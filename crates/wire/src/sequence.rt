@@ -3,13 +3,14 @@ ghost use Rattle.std.specs.Prelude.{◌≡◌};
 ghost use Rattle.wire.specs.Sequence.{is_newer};
 
 // Whether the sequence number `new` is newer than `last`; where no last one is known, every number is.
+#[tactic(auto, unfolding(crate::specs::Sequence::is_newer, crate::specs::Sequence::distance))]
 pub fn newer(known: bool, last: u16, new: u16) -> bool
     ensures { result ≡ is_newer known last new }
 {
     if !known {
         return true;
     }
-    let ahead = std::num::wrapping_sub_u16(new, last);
+    let ahead = new.wrapping_sub(last);
     if ahead < 1 {
         return false;
     }

@@ -6,18 +6,12 @@ ghost use Rattle.wire.specs.Signed.{signed, unsigned};
 pub fn signed16(x: u16) -> i16
     ensures { result ≡ signed 2 x }
 {
-    if x < 32768 {
-        return x as i16;
-    }
-    (x - 32768) as i16 + (-32768)
+    x.cast_signed()
 }
 
 // The two's complement of z in two bytes.
 pub fn unsigned16(z: i16) -> u16
     ensures { result ≡ unsigned 2 z }
 {
-    if 0 <= z {
-        return z as u16;
-    }
-    65535 - (-1 - z) as u16
+    z.cast_unsigned()
 }

@@ -1,14 +1,12 @@
-// What a call answers: accepted, or one of the refusals of 01, "Refusal numbers". Code and definitions use these names; `number` gives
-// the paper's number of each.
+// What a call answers: that it accepts, or one of the refusals of 01, "Refusal numbers".
 ghost use Rattle.std.specs.Prelude.{◌≡◌};
-ghost use Rattle.wire.specs.Status.{number_of, status_for};
+ghost use Rattle.wire.specs.Status.{refusal_number, number_of, status_for, refused_at};
 
-#[derive(Clone, Copy)]
-pub enum Status {
-    // 0: accepted.
-    Accepted,
+// The refusals. Code and definitions use these names.
+#[derive(Clone, Copy, PartialEq, Eq)]
+pub enum Refusal {
     // 1: the bytes end before the fixed header or the declared size.
-    Truncated,
+    Truncated = 1,
     // 2: declared size below the header, not 7 for a position, or bytes left over after it.
     WrongSize,
     // 3: Version not 1, or of a packet's RTP header the first byte not 80 hex or the second not 0 (02 §2).
@@ -46,60 +44,68 @@ pub enum Status {
     NotWritable,
 }
 
-// The paper's number of a status.
+impl Refusal {
+    // The paper's number of a refusal.
+    pub fn number(self) -> u8
+        ensures { result ≡ refusal_number self }
+    {
+        self as u8
+    }
+}
+
+// Accepted, or the refusal.
+pub type Status = Result<(), Refusal>;
+
+// A refusal and its place: in a message the byte at fault, else 0.
+#[derive(Clone, Copy, PartialEq, Eq)]
+pub struct Refused {
+    pub refusal: Refusal,
+    pub place: usize,
+}
+
+impl From<Refusal> for Refused {
+    ghost from_gives = { λ refusal refused. refused ≡ refused_at refusal 0 };
+
+    fn from(refusal: Refusal) -> Refused {
+        Refused { refusal, place: 0 }
+    }
+}
+
+// The paper's number of a status: 0 where it accepts.
 pub fn number(status: Status) -> u8
     ensures { result ≡ number_of status }
 {
     match status {
-        Status::Accepted => 0,
-        Status::Truncated => 1,
-        Status::WrongSize => 2,
-        Status::WrongHeader => 3,
-        Status::UnknownKind => 4,
-        Status::TlvTruncated => 5,
-        Status::TlvLength => 6,
-        Status::TlvRepeated => 7,
-        Status::TlvUnexpected => 8,
-        Status::OutsideImage => 9,
-        Status::NoRoom => 10,
-        Status::NotNewer => 11,
-        Status::TotalDiffers => 12,
-        Status::Conflict => 13,
-        Status::UnexpectedEvent => 14,
-        Status::OtherSource => 15,
-        Status::NotGrammar => 16,
-        Status::ImageNotHeld => 17,
-        Status::NotWritable => 18,
+        Ok(()) => 0,
+        Err(refusal) => refusal.number(),
     }
 }
 
-// The status of a number. No status has a number above 18: one is an unknown kind.
+// The status of a number. No refusal has a number above 18: one is an unknown kind.
 #[tactic(auto, unfolding(crate::specs::Status::status_for))]
 pub fn of_number(number: u8) -> Status
     ensures { result ≡ status_for number }
 {
-    if 18 < number {
-        return Status::UnknownKind;
-    }
     match number {
-        0 => Status::Accepted,
-        1 => Status::Truncated,
-        2 => Status::WrongSize,
-        3 => Status::WrongHeader,
-        4 => Status::UnknownKind,
-        5 => Status::TlvTruncated,
-        6 => Status::TlvLength,
-        7 => Status::TlvRepeated,
-        8 => Status::TlvUnexpected,
-        9 => Status::OutsideImage,
-        10 => Status::NoRoom,
-        11 => Status::NotNewer,
-        12 => Status::TotalDiffers,
-        13 => Status::Conflict,
-        14 => Status::UnexpectedEvent,
-        15 => Status::OtherSource,
-        16 => Status::NotGrammar,
-        17 => Status::ImageNotHeld,
-        _ => Status::NotWritable,
+        0 => Ok(()),
+        1 => Err(Refusal::Truncated),
+        2 => Err(Refusal::WrongSize),
+        3 => Err(Refusal::WrongHeader),
+        4 => Err(Refusal::UnknownKind),
+        5 => Err(Refusal::TlvTruncated),
+        6 => Err(Refusal::TlvLength),
+        7 => Err(Refusal::TlvRepeated),
+        8 => Err(Refusal::TlvUnexpected),
+        9 => Err(Refusal::OutsideImage),
+        10 => Err(Refusal::NoRoom),
+        11 => Err(Refusal::NotNewer),
+        12 => Err(Refusal::TotalDiffers),
+        13 => Err(Refusal::Conflict),
+        14 => Err(Refusal::UnexpectedEvent),
+        15 => Err(Refusal::OtherSource),
+        16 => Err(Refusal::NotGrammar),
+        17 => Err(Refusal::ImageNotHeld),
+        18 => Err(Refusal::NotWritable),
+        _ => Err(Refusal::UnknownKind),
     }
 }

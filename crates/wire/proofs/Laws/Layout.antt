@@ -1,7 +1,6 @@
 -- Laws of records laid over bytes: what is laid reads back. Assumes nothing.
 use Rattle.std.proofs.Common.{◌≡◌, ℕ, zero, suc, ◌+◌, ◌-◌, ◌^◌, ◌<◌, ◌≤◌, Bool, true, false, List, [], ◌++◌, length, get_or, refl, ap, ◌∙◌, arith, length-append, get_or-append-add, le-leb}
 use mir.Val.{bool_byte}
-use borrow.Author.Tests.{lt-leb}
 use lib.ListN.{get_or-append}
 use Rattle.wire.specs.Laid.{laid}
 use Rattle.wire.specs.Layout.{flag, is_set}
@@ -11,7 +10,7 @@ use Rattle.wire.proofs.Laws.Number.{number_same, number_bytes_lem, length_bytes}
 use Rattle.wire.proofs.Laws.Splice.{in_part}
 use Rattle.wire.proofs.Laws.Written.{Written, none}
 
--- where its bytes are there, a number is read from them; else it is 0
+-- where its bytes are there, a number is read from them
 pub there : AllThere
 unfolding number_at
 there n at s h = simp (le-leb (at + n) (length s) h)
@@ -19,10 +18,6 @@ there n at s h = simp (le-leb (at + n) (length s) h)
 pub power_positive : (n : ℕ) → 0 < 256 ^ n
 power_positive zero = omega arith
 power_positive (suc n) = omega (arith, power_positive n)
-
-pub missing : (n at : ℕ) (s : List ℕ) → length s < at + n → (0 ≡ number_at n s at) × (0 < 256 ^ n)
-unfolding number_at
-missing n at s h = (simp (lt-leb (at + n) (length s) h), power_positive n)
 
 -- what is written is little-endian
 pub nothing : (at : ℕ) (xs : List ℕ) → Written false at at [] xs xs

@@ -1,6 +1,6 @@
 -- After k bytes v is the number in them, and small enough for the next one. Assumes nothing.
 use Rattle.std.proofs.Common.{true, arith}
-use Rattle.wire.proofs.Laws.Digits.{none_read, one_fits, one_read, all_read}
+use Rattle.wire.proofs.Laws.Digits.{none_read, one_fits, one_read}
 use Rattle.wire.proofs.number.padded.Goals as goal
 
 pub loop-k-init : goal.loop-k-init
@@ -14,8 +14,3 @@ overflow_add-v c = omega (arith, one_fits c.loop-k.invariant c.byte-b.result (om
 
 pub loop-k-preserved : goal.loop-k-preserved
 loop-k-preserved c = one_read c.loop-k.invariant _ c.byte-b.ensures (omega arith) (omega arith)
-
-pub returns : goal.returns
-returns c = let l = c.loop-k in
-    let some = l.invariant.some in
-    all_read l.invariant (omega arith)

@@ -4,6 +4,3 @@ use Rattle.wire.proofs.order.write.Given as goal
 
 abbrev pub invariant-loop-k : goal.invariant-loop-k
 invariant-loop-k l = Wrote l.big l.at l.n l.v l.initial.out l.k l.rest l.out
-
-abbrev pub decreases-loop-k : goal.decreases-loop-k
-decreases-loop-k l = l.k

@@ -1,12 +1,9 @@
--- Each need is a law of two's complement at this width. Assumes nothing.
+-- The machine's two's complement is that of two bytes. Assumes nothing.
 use Rattle.std.proofs.Common.{refl, ◌∙◌, w16}
-use Rattle.wire.proofs.Laws.Signed.{kept, flipped_back, unsigned_of_z}
+use mir.ValLaws.{to_z-of_z}
+use Rattle.wire.proofs.Laws.Signed.{unsigned_of_z}
 use Rattle.wire.proofs.signed.unsigned16.Goals as goal
-
-pub returns-then-z-ge0 : goal.returns-then-z-ge0
-returns-then-z-ge0 c = let z = c.args.z in
-    (kept w16 z c.ranges.z c.if-z-ge0.true).1 ∙ unsigned_of_z w16 2 refl z
 
 pub returns : goal.returns
 returns c = let z = c.args.z in
-    flipped_back w16 z c.ranges.z c.if-z-ge0.false ∙ unsigned_of_z w16 2 refl z
+    c.cast_unsigned.ensures ∙ rw (to_z-of_z w16 z c.ranges.z) (unsigned_of_z w16 2 refl z)
