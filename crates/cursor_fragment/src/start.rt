@@ -38,19 +38,19 @@ impl Start {
     }
 }
 
-// The start fields of a packet: 0 for a continuation.
+// The start fields of a packet that is a start.
 #[tactic(auto, unfolding(crate::specs::Start::start_in, crate::specs::Start::start_of))]
-pub(crate) fn read(packet: &[u8], starts: bool) -> Start
+pub(crate) fn read(packet: &[u8], starts: bool) -> Option<Start>
     ensures { result ≡ start_in starts packet.now }
 {
     if !starts {
-        return Start::none();
+        return None;
     }
-    Start {
-        image_type: number::u8_at(packet, 25),
-        hot_x: number::u16_at(packet, 26),
-        hot_y: number::u16_at(packet, 28),
-    }
+    Some(Start {
+        image_type: number::read(packet, 25),
+        hot_x: number::read(packet, 26),
+        hot_y: number::read(packet, 28),
+    })
 }
 
 // Whether the own fields of two starts are the same.
