@@ -8,7 +8,7 @@ use cursor_fragment::Fragment;
 use cursor_picture::Picture;
 use scan::conflict;
 use wire::sequence;
-use wire::status::Status;
+use wire::status::{Refusal, Status};
 
 // Whether a picture is opened and the fragment is of its id.
 #[tactic(auto, unfolding(crate::specs::Judging::of_opened))]
@@ -23,7 +23,7 @@ pub(crate) fn of_opened(picture: Picture, fragment: Fragment) -> bool
 fn start_differs(picture: Picture, fragment: Fragment) -> bool
     ensures { result ≡ start_differs picture fragment }
 {
-    fragment.starts && picture.seen && picture.start != fragment.start
+    fragment.start.is_some_and(|start| picture.seen && picture.start != start)
 }
 
 // A fragment of another id, or where no picture is opened: it opens a picture if it is newer, else it is 11.
@@ -32,9 +32,9 @@ fn judge_other(picture: Picture, fragment: Fragment) -> Status
     ensures { result ≡ first_of (other_rules picture fragment) }
 {
     if sequence::newer(picture.opened, picture.opening, fragment.sequence) {
-        return Status::Accepted;
+        return Ok(());
     }
-    Status::NotNewer
+    Err(Refusal::NotNewer)
 }
 
 // The first refusal, or Accepted: 10 where there is no room for the fragment's total; of another id than the opened one's, 11; of the opened
@@ -51,18 +51,18 @@ pub(crate) fn judge(
     ensures { result ≡ first_of (judging picture fragment «data».now image.now marks.now) }
 {
     if !cursor_picture::has_room(fragment.total, image.len(), marks.len()) {
-        return Status::NoRoom;
+        return Err(Refusal::NoRoom);
     }
     if !of_opened(picture, fragment) {
         return judge_other(picture, fragment);
     }
     if picture.total != fragment.total {
-        return Status::TotalDiffers;
+        return Err(Refusal::TotalDiffers);
     }
     let at = fragment.offset as usize;
     let end = at + data.len();
     if start_differs(picture, fragment) || conflict::found(&marks[at..end], &image[at..end], data) {
-        return Status::Conflict;
+        return Err(Refusal::Conflict);
     }
-    Status::Accepted
+    Ok(())
 }

@@ -10,28 +10,14 @@ use cursor_fragment::{Fragment, start};
 use cursor_picture::Picture;
 use cursor_pointer::Pointer;
 use scan::bytes;
-use wire::status::Status;
-use wire::{sequence, status};
-
-// The status, and the picture's record afterwards. A struct, since the variants of an enum share bytes.
-#[derive(Clone, Copy)]
-pub struct Assembled {
-    pub status: Status,
-    pub picture: Picture,
-}
+use wire::sequence;
+use wire::status::{Refusal, Refused};
 
 // The records as an accepted fragment leaves them.
 #[derive(Clone, Copy)]
 pub struct Stored {
     pub pointer: Pointer,
     pub picture: Picture,
-}
-
-// What an accepted fragment leaves, or a refusal, which changes nothing.
-#[derive(Clone, Copy)]
-pub enum StoreAnswer {
-    Accepted(Stored),
-    Refused { status: Status, place: usize },
 }
 
 // The record of a picture that this fragment opens.
@@ -84,65 +70,45 @@ fn put(offset: u32, data: &[u8], image: &mut [u8], marks: &mut [u8])
 fn with_start(picture: Picture, fragment: Fragment) -> Picture
     ensures { result ≡ with_start fragment picture }
 {
-    if fragment.starts {
-        Picture {
+    match fragment.start {
+        Some(start) => Picture {
             seen: true,
-            start: fragment.start,
+            start,
             ..picture
-        }
-    } else {
-        picture
+        },
+        None => picture,
     }
 }
 
 // Judges a fragment, and stores it if it is accepted.
-#[tactic(auto, using(crate::proofs::Laws::Judging::judged_room), unfolding(crate::specs::Assembling::fragment_assembled, crate::specs::Assembling::assembled_as, crate::specs::Assembling::image_after, crate::specs::Assembling::marks_after, crate::specs::Assembling::picture_after))]
+#[tactic(auto, unfolding(crate::specs::Assembling::fragment_assembled, crate::specs::Assembling::assembled_as, crate::specs::Assembling::image_after, crate::specs::Assembling::marks_after, crate::specs::Assembling::picture_after))]
 fn take(
     picture: Picture,
     fragment: Fragment,
     data: &[u8],
     image: &mut [u8],
     marks: &mut [u8],
-) -> Assembled
+) -> Result<Picture, Refusal>
     requires { fragment.offset + length «data».now ≤ fragment.total }
     ensures { outcome result image.new marks.new ≡ fragment_assembled picture fragment «data».now image.old marks.old }
 {
-    let judged = judging::judge(picture, fragment, data, image, marks);
-    if status::number(judged) != 0 {
-        return Assembled {
-            status: judged,
-            picture: picture,
-        };
-    }
+    judging::judge(picture, fragment, data, image, marks)?;
     let opened = open_for(picture, fragment, marks);
     put(fragment.offset, data, image, marks);
-    Assembled {
-        status: judged,
-        picture: with_start(opened, fragment),
-    }
+    Ok(with_start(opened, fragment))
 }
 
-// The picture's part of the call for starts and continuations: the first refusal in 01's order, which changes nothing, or Accepted, with the
-// record of the picture as the fragment leaves it.
-pub fn assemble(picture: Picture, packet: &[u8], image: &mut [u8], marks: &mut [u8]) -> Assembled
+// The picture's part of the call for starts and continuations: the record of the picture as the fragment leaves it, or the first refusal in
+// 01's order, which changes nothing.
+#[tactic(auto, using(crate::proofs::Laws::Assembling::assembled_refused))]
+pub fn assemble(picture: Picture, packet: &[u8], image: &mut [u8], marks: &mut [u8]) -> Result<Picture, Refusal>
     ensures { outcome result image.new marks.new ≡ assembled picture packet.now image.old marks.old }
 {
     if !cursor_picture::is_held(picture, image.len(), marks.len()) {
-        return Assembled {
-            status: Status::ImageNotHeld,
-            picture: picture,
-        };
+        return Err(Refusal::ImageNotHeld);
     }
-    let parsed = cursor_fragment::parse(packet);
-    let status = parsed.status;
-    let fragment = parsed.fragment;
-    if status::number(status) != 0 {
-        return Assembled {
-            status: status,
-            picture: picture,
-        };
-    }
-    let data = cursor_fragment::image_data(packet, fragment.starts);
+    let fragment = cursor_fragment::parse(packet)?;
+    let data = cursor_fragment::image_data(packet, fragment.start.is_some());
     take(picture, fragment, data, image, marks)
 }
 
@@ -174,21 +140,12 @@ pub fn store(
     packet: &[u8],
     image: &mut [u8],
     marks: &mut [u8],
-) -> StoreAnswer
+) -> Result<Stored, Refused>
     ensures { outcome result image.new marks.new ≡ stored pointer picture packet.now image.old marks.old }
 {
-    let assembled = assemble(picture, packet, image, marks);
-    let status = assembled.status;
-    let opened = assembled.picture;
-    if status::number(status) != 0 {
-        return StoreAnswer::Refused {
-            status: status,
-            place: 0,
-        };
-    }
-    let moved = moved_by(pointer, packet);
-    StoreAnswer::Accepted(Stored {
-        pointer: moved,
+    let opened = assemble(picture, packet, image, marks)?;
+    Ok(Stored {
+        pointer: moved_by(pointer, packet),
         picture: opened,
     })
 }
