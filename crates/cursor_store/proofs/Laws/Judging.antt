@@ -1,6 +1,6 @@
 -- Laws of judging: an accepted fragment has room; the sequence number matters for another id alone, where it wraps. Assumes nothing.
-use Prim.Native.Nat.{ℕ}
-use mathlib.Core.Path.{◌≡◌, refl}
+use Prim.Native.Nat.{ℕ, ◌≤◌}
+use mathlib.Core.Path.{◌≡◌, refl, sym, ap}
 use mathlib.Core.Bool.{Bool, true, false, not, cond, ◌||◌, false≢true}
 use mathlib.Core.List.{List}
 use lib.Dec.{eqb}
@@ -13,6 +13,7 @@ use Rattle.cursor_fragment.specs.declared.Fragment.{Fragment}
 use Rattle.cursor_pointer.proofs.Laws.Pointer.{wrap_newer}
 use Rattle.cursor_picture.specs.declared.Picture.{Picture}
 use Rattle.cursor_picture.specs.Picture.{has_room}
+use Rattle.cursor_picture.proofs.Laws.Picture.{room_says}
 use Rattle.cursor_store.specs.Judging.{of_opened, opens, start_differs, bytes_differ, opened_rules, other_rules, judging, with_sequence, SequenceIgnored, WrapOpens}
 
 no_room : (b : Bool) (s : Status) → accepted (cond (not b) (Err refusal.NoRoom) s) ≡ true → b ≡ true
@@ -24,6 +25,11 @@ pub judged_room
     → has_room f.total (length image) (length marks) ≡ true
 unfolding judging first_of
 judged_room q f ds image marks h = no_room (has_room f.total (length image) (length marks)) _ h
+
+-- so its total is no larger than picture and marks
+pub judged_fits
+    : (q : Picture) (f : Fragment) (ds image marks : List ℕ) → accept ≡ first_of (judging q f ds image marks) → (f.total ≤ length image) × (f.total ≤ length marks)
+judged_fits q f ds image marks e = room_says f.total (length image) (length marks) (judged_room q f ds image marks (ap accepted (sym e)))
 
 no_conflict : (r t d b : Bool) → accepted (cond (not r) (Err refusal.NoRoom) (cond t (Err refusal.TotalDiffers) (cond (d || b) (Err refusal.Conflict) accept))) ≡ true → d ≡ false
 no_conflict true true d b h = absurd (false≢true h)
