@@ -81,7 +81,7 @@ fn with_start(picture: Picture, fragment: Fragment) -> Picture
 }
 
 // Judges a fragment, and stores it if it is accepted.
-#[tactic(auto, using(crate::proofs::Laws::Judging::judged_fits), unfolding(crate::specs::Assembling::fragment_assembled, crate::specs::Assembling::assembled_as, crate::specs::Assembling::image_after, crate::specs::Assembling::marks_after, crate::specs::Assembling::picture_after))]
+#[tactic(auto, using(crate::proofs::Laws::Judging::judged_fits), unfolding(crate::specs::Assembling::fragment_assembled, crate::specs::Assembling::assembled_as, crate::specs::Assembling::image_after, crate::specs::Assembling::marks_after, crate::specs::Assembling::picture_after,),)]
 fn take(
     picture: Picture,
     fragment: Fragment,
@@ -100,8 +100,13 @@ fn take(
 
 // The picture's part of the call for starts and continuations: the record of the picture as the fragment leaves it, or the first refusal in
 // 01's order, which changes nothing.
-#[tactic(auto, using(crate::proofs::Laws::Assembling::assembled_not_held, crate::proofs::Laws::Assembling::assembled_refused, crate::proofs::Laws::Assembling::assembled_taken, crate::proofs::Laws::Assembling::parsed_inside))]
-pub fn assemble(picture: Picture, packet: &[u8], image: &mut [u8], marks: &mut [u8]) -> Result<Picture, Refusal>
+#[tactic(auto, using(crate::proofs::Laws::Assembling::assembled_not_held, crate::proofs::Laws::Assembling::assembled_refused, crate::proofs::Laws::Assembling::assembled_taken, crate::proofs::Laws::Assembling::parsed_inside,),)]
+pub fn assemble(
+    picture: Picture,
+    packet: &[u8],
+    image: &mut [u8],
+    marks: &mut [u8],
+) -> Result<Picture, Refusal>
     ensures { outcome result image.new marks.new ≡ assembled picture packet.now image.old marks.old }
 {
     if !cursor_picture::is_held(picture, image.len(), marks.len()) {
@@ -117,7 +122,9 @@ pub fn assemble(picture: Picture, packet: &[u8], image: &mut [u8], marks: &mut [
 pub fn moves(pointer: Pointer, packet: &[u8]) -> bool
     ensures { result ≡ moves pointer packet.now }
 {
-    cursor_fragment::is_start(packet) && sequence::newer(pointer.known, pointer.sequence, start::position(packet).sequence)
+    let position = start::position(packet);
+    cursor_fragment::is_start(packet)
+        && sequence::newer(pointer.known, pointer.sequence, position.sequence)
 }
 
 // The pointer's part: moved by an accepted packet that is a newer start.

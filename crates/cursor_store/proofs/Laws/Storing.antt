@@ -16,18 +16,6 @@ use Rattle.cursor_store.specs.declared.storing.Stored.{Stored}
 use Rattle.cursor_store.specs.Assembling.{store_status, image_after, marks_after, picture_after, Outcome, outcome, assembled_as, assembled}
 use Rattle.cursor_store.specs.Storing.{moves, pointer_after, with_pointer, stored, PointerKept}
 
--- the pointer after a packet
-module _ (p : Pointer) (packet : List ℕ) where
-  pub pointer_start
-      : is_start packet ≡ true → pointer_after p packet ≡ moved_to p (start_position packet).sequence (start_position packet).x (start_position packet).y
-  unfolding pointer_after
-  pointer_start e = simp e
-
-  -- a packet that is no start
-  pub no_start_moves : is_start packet ≡ false → moves p packet ≡ false
-  unfolding moves
-  no_start_moves e = simp e
-
 pub pointer_kept : PointerKept
 unfolding pointer_after moves moved_to
 pointer_kept p packet e = go (is_start packet) e
