@@ -81,7 +81,7 @@ fn with_start(picture: Picture, fragment: Fragment) -> Picture
 }
 
 // Judges a fragment, and stores it if it is accepted.
-#[tactic(auto, using(crate::proofs::Laws::Judging::judged_fits), unfolding(crate::specs::Assembling::fragment_assembled, crate::specs::Assembling::assembled_as, crate::specs::Assembling::image_after, crate::specs::Assembling::marks_after, crate::specs::Assembling::picture_after,),)]
+#[tactic(auto, using(crate::proofs::Laws::Judging::judged_fits), unfolding(crate::specs::Assembling::fragment_assembled, crate::specs::Assembling::assembled_as, crate::specs::Assembling::image_after, crate::specs::Assembling::marks_after, crate::specs::Assembling::picture_after))]
 fn take(
     picture: Picture,
     fragment: Fragment,
@@ -100,7 +100,7 @@ fn take(
 
 // The picture's part of the call for starts and continuations: the record of the picture as the fragment leaves it, or the first refusal in
 // 01's order, which changes nothing.
-#[tactic(auto, using(crate::proofs::Laws::Assembling::assembled_not_held, crate::proofs::Laws::Assembling::assembled_refused, crate::proofs::Laws::Assembling::assembled_taken, crate::proofs::Laws::Assembling::parsed_inside,),)]
+#[tactic(auto, using(crate::proofs::Laws::Assembling::not_held, crate::proofs::Laws::Assembling::refused, crate::proofs::Laws::Assembling::taken, crate::proofs::Laws::Assembling::parsed_inside))]
 pub fn assemble(
     picture: Picture,
     packet: &[u8],

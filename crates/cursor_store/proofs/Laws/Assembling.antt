@@ -73,10 +73,10 @@ unfolding parsed
 refused_says packet r e = passed_err (fragment_status packet) (fragment_of packet) r e
 
 module _ (q : Picture) (packet image marks : List ℕ) where
-  pub assembled_not_held
+  pub not_held
       : held q (length image) (length marks) ≡ false → assembled q packet image marks ≡ outcome (Err refusal.ImageNotHeld) image marks
   unfolding assembled assembled_as
-  assembled_not_held h =
+  not_held h =
       let t : store_status q packet image marks ≡ Err refusal.ImageNotHeld = store_status_lem q packet image marks ∙ simp h in
       simp t
 
@@ -86,14 +86,14 @@ module _ (q : Picture) (packet image marks : List ℕ) where
         → store_status q packet image marks ≡ cond (accepted s) (first_of (judging q (fragment_of packet) (data_of packet) image marks)) s
     status_is s e = store_status_lem q packet image marks ∙ simp (h, e)
 
-    pub assembled_refused : (r : Refusal) → Err r ≡ parsed packet → assembled q packet image marks ≡ outcome (Err r) image marks
+    pub refused : (r : Refusal) → Err r ≡ parsed packet → assembled q packet image marks ≡ outcome (Err r) image marks
     unfolding assembled assembled_as
-    assembled_refused r e = simp (status_is (Err r) (refused_says packet r e))
+    refused r e = simp (status_is (Err r) (refused_says packet r e))
 
-    pub assembled_taken : (f : Fragment) → Ok f ≡ parsed packet
+    pub taken : (f : Fragment) → Ok f ≡ parsed packet
         → assembled q packet image marks ≡ fragment_assembled q f (image_data (starts f) packet) image marks
     unfolding assembled fragment_assembled
-    assembled_taken f e =
+    taken f e =
         rw (parsed_data packet f e, (parsed_is packet f e).1)
         (ap (λ (s : Status). assembled_as s q (fragment_of packet) (data_of packet) image marks)
         (store_status_lem q packet image marks ∙ simp (h, (parsed_is packet f e).0)))
