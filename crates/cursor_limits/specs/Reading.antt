@@ -1,10 +1,8 @@
 -- What reading a cursor limits value gives (01, "Cursor limits value"). `Theorems` says that this is the grammar. Assumes nothing.
-use Rattle.std.specs.Prelude.{ℕ, List, cond, eqb, length, get_or, take, drop}
+use Rattle.std.specs.Prelude.{ℕ, List, cond, eqb, length, get_or, take, drop, Option, Some, None}
 use Rattle.wire.specs.declared.status.Status.TheVariants as status
 use Rattle.wire.specs.Numbered.{Numbered, accepted_as, refused_as}
 use Rattle.wire.specs.Splice.{part}
-use Rattle.text.specs.declared.hex.Digits.{Digits}
-use Rattle.text.specs.declared.hex.Digits.TheVariants as digits
 use Rattle.cursor_limits.specs.declared.value.Xor.{Xor}
 use Rattle.cursor_limits.specs.declared.value.Xor.TheVariants as xor
 use Rattle.cursor_limits.specs.declared.value.Value.TheVariants as value
@@ -25,15 +23,15 @@ abbrev pub not_grammar : Answer
 not_grammar = answer.Refused status.NotGrammar 0
 
 -- SP and the digits after it
-unfoldable pub read_field : List ℕ → Digits
-read_field s = cond (eqb (get_or s 0 0) space) (read_digits (drop 1 s)) digits.NotHexadecimal
+unfoldable pub read_field : List ℕ → Option ℕ
+read_field s = cond (eqb (get_or s 0 0) space) (read_digits (drop 1 s)) None
 
 -- the limits, where width, height and port are numbers
-abbrev pub limits_of : Xor → Digits → Digits → Digits → Answer
-limits_of x digits.NotHexadecimal h p = not_grammar
-limits_of x (digits.Number w) digits.NotHexadecimal p = not_grammar
-limits_of x (digits.Number w) (digits.Number h) digits.NotHexadecimal = not_grammar
-limits_of x (digits.Number w) (digits.Number h) (digits.Number p) =
+abbrev pub limits_of : Xor → Option ℕ → Option ℕ → Option ℕ → Answer
+limits_of x None h p = not_grammar
+limits_of x (Some w) None p = not_grammar
+limits_of x (Some w) (Some h) None = not_grammar
+limits_of x (Some w) (Some h) (Some p) =
     answer.Accepted (value.Supported (record { xor = x; width = w; height = h; port = p }))
 
 -- SP x-max SP y-max SP port, after the four letters of the xor support

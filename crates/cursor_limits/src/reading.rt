@@ -3,7 +3,6 @@ ghost use Rattle.std.specs.Prelude.{◌≡◌, length};
 ghost use Rattle.cursor_limits.specs.Reading.{not_grammar, read_field, read_limits, read_value};
 
 use crate::value::{Answer, Limits, Value, Xor};
-use text::hex::Digits;
 use text::{hex, word};
 use wire::status::Status;
 
@@ -18,28 +17,30 @@ fn not_grammar() -> Answer
 }
 
 // A space and the digits after it.
-fn read_field(bytes: &[u8]) -> Digits
+#[tactic(auto, unfolding(crate::specs::Reading::read_field))]
+fn read_field(bytes: &[u8]) -> Option<u16>
     requires { length bytes.now ≡ 5 }
     ensures { result ≡ read_field bytes.now }
 {
     if bytes[0] != b' ' {
-        return Digits::NotHexadecimal;
+        return None;
     }
     hex::read(&bytes[1..])
 }
 
 // The limits in the 19 bytes of a value with that xor support.
+#[tactic(auto, unfolding(crate::specs::Reading::read_limits))]
 fn read_limits(bytes: &[u8], xor: Xor) -> Answer
     requires { length bytes.now ≡ 19 }
     ensures { result ≡ read_limits xor bytes.now }
 {
-    let Digits::Number(width) = read_field(&bytes[4..9]) else {
+    let Some(width) = read_field(&bytes[4..9]) else {
         return not_grammar();
     };
-    let Digits::Number(height) = read_field(&bytes[9..14]) else {
+    let Some(height) = read_field(&bytes[9..14]) else {
         return not_grammar();
     };
-    let Digits::Number(port) = read_field(&bytes[14..19]) else {
+    let Some(port) = read_field(&bytes[14..19]) else {
         return not_grammar();
     };
     Answer::Accepted(Value::Supported(Limits {
@@ -51,6 +52,7 @@ fn read_limits(bytes: &[u8], xor: Xor) -> Answer
 }
 
 // Reads a value. The bytes must be a value from the first to the last, else the answer is 16.
+#[tactic(auto, unfolding(crate::specs::Reading::read_value))]
 pub fn read(bytes: &[u8]) -> Answer
     ensures { result ≡ read_value bytes.now }
 {

@@ -20,6 +20,7 @@ fn word_of(xor: Xor) -> [u8; 4]
 }
 
 // Fills the five bytes with a space and the digits of the number.
+#[tactic(auto, using(crate::proofs::Laws::Writing::field_written))]
 fn write_field(out: &mut [u8], number: u16)
     requires { length out.old ≡ 5 }
     ensures { out.new ≡ spell_field number }
@@ -37,17 +38,16 @@ fn write_limits(out: &mut [u8], limits: Limits)
     let xor = limits.xor;
     let word = word_of(xor);
     let numbers = [limits.width, limits.height, limits.port];
-    let mut i = 0;
-    while i < 3 {
+    for i in 0..3 {
         let at = 4 + 5 * i;
         let end = at + 5;
         write_field(&mut out[at..end], numbers[i]);
-        i += 1;
     }
     word::copy(out, &word);
 }
 
 // Writes a value into the first bytes of `out` and answers their number; where `out` is too short, nothing changes.
+#[tactic(auto, unfolding(crate::specs::Writing::write_answer), using(crate::proofs::Laws::Writing::length_limits, wire::proofs::Laws::Laid::laid_short))]
 pub fn write(value: Value, out: &mut [u8]) -> Written
     ensures answer { result ≡ write_answer value (length out.old) }
     ensures bytes { out.new ≡ laid (spelling value) out.old }

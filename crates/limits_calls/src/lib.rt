@@ -9,6 +9,7 @@ use host_answers::{Answer, Written, accept, not_written, of_writer, refuse};
 use wire::status::Status;
 
 // Reads a value, which is all of the lent text, into the record.
+#[tactic(auto, unfolding(crate::specs::LimitsCalls::read_answer, crate::specs::LimitsCalls::read_record), using(limits_layout::proofs::Laws::LimitsLayout::limits_short))]
 pub fn read(text: &[u8], record: &mut [u8]) -> Answer
     ensures answer { result ≡ read_answer text.now «record».old }
     ensures after { «record».new ≡ read_record text.now «record».old }
@@ -26,6 +27,7 @@ pub fn read(text: &[u8], record: &mut [u8]) -> Answer
 }
 
 // Writes the value of a record to the first bytes of `out`.
+#[tactic(auto, unfolding(crate::specs::LimitsCalls::limits_written, crate::specs::LimitsCalls::limits_output))]
 pub fn write(record: &[u8], out: &mut [u8]) -> Written
     ensures answer { result ≡ limits_written «record».now out.old }
     ensures after { out.new ≡ limits_output «record».now out.old }

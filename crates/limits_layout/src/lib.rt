@@ -18,13 +18,14 @@ use wire::little_endian::{put_u8, put_u16, u8_at, u16_at};
 
 pub const LENGTH: usize = 8;
 
+#[tactic(auto, unfolding(crate::specs::LimitsLayout::xor_of))]
 fn xor_of(byte: u8) -> Xor
     ensures { result ≡ xor_of byte }
 {
-    if byte == 0 {
-        return Xor::None;
+    match byte {
+        0 => Xor::None,
+        _ => Xor::Full,
     }
-    Xor::Full
 }
 
 fn byte_of(xor: Xor) -> u8
@@ -37,6 +38,7 @@ fn byte_of(xor: Xor) -> u8
 }
 
 // The value in the bytes; a number whose bytes are not all there counts as 0.
+#[tactic(auto, unfolding(crate::specs::LimitsLayout::limits_in))]
 pub fn read(record: &[u8]) -> Value
     ensures { result ≡ limits_in «record».now }
 {
@@ -52,6 +54,7 @@ pub fn read(record: &[u8]) -> Value
 }
 
 // Writes the numbers of the layout; where the bytes are fewer, nothing changes.
+#[tactic(auto, using(crate::proofs::Laws::LimitsLayout::numbers_written, crate::proofs::Laws::LimitsLayout::length_numbers, wire::proofs::Laws::Laid::laid_short))]
 fn write_numbers(record: &mut [u8], supported: u8, xor: u8, width: u16, height: u16, port: u16)
     ensures { «record».new ≡ laid (number_bytes supported xor width height port) «record».old }
 {
@@ -72,11 +75,10 @@ pub fn write(record: &mut [u8], value: Value)
     match value {
         Value::NotSupported => write_numbers(record, 0, 0, 0, 0, 0),
         Value::Supported(limits) => {
-            let xor = limits.xor;
             write_numbers(
                 record,
                 1,
-                byte_of(xor),
+                byte_of(limits.xor),
                 limits.width,
                 limits.height,
                 limits.port,

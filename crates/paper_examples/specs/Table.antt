@@ -1,6 +1,6 @@
 -- 01, "Proved table of small examples": "These twelve are shown against the definitions by a single theorem over a list of them." An example says
 -- what a definition has to give, by numbers and Bools alone, so that each is tested by computing. Assumes nothing.
-use Rattle.std.specs.Prelude.{ℕ, ◌≡◌, refl, List, [], ◌∷◌, ◌++◌, Bool, true, false, not, ◌&&◌, eqb, ℤ, pos, negsuc, replicate}
+use Rattle.std.specs.Prelude.{ℕ, ◌≡◌, refl, List, [], ◌∷◌, ◌++◌, Bool, true, false, not, ◌&&◌, eqb, ℤ, pos, negsuc, replicate, Option, Some, None}
 use Rattle.wire.specs.Below.{all_below}
 use Rattle.wire.specs.Number.{number_in}
 use Rattle.wire.specs.Sequence.{distance, is_newer}
@@ -26,8 +26,6 @@ use Rattle.cursor_packet.specs.Rtp.{rtp_holds}
 use Rattle.cursor_packet.specs.Frame.{frame_checks}
 use Rattle.cursor_packet.specs.Position.{position_checks, position_at, read_position}
 use Rattle.cursor_fragment.specs.Fragment.{takes_type, header_length, image_data, offset_bits, outside, fragment_frame, fragment_checks, fragment_status}
-use Rattle.text.specs.declared.hex.Digits.{Digits}
-use Rattle.text.specs.declared.hex.Digits.TheVariants as hexadecimal
 use Rattle.text.specs.Range.{within}
 use Rattle.text.specs.Hex.{digit_value, is_digit, number as hex_number, read_digits}
 
@@ -112,9 +110,9 @@ is_position : ℤ → ℤ → PositionAnswer → Bool
 is_position x y (positioned.Accepted p) = same_integer p.x x && same_integer p.y y
 is_position x y (positioned.Refused st place) = false
 
-is_number : ℕ → Digits → Bool
-is_number n (hexadecimal.Number v) = eqb v n
-is_number n hexadecimal.NotHexadecimal = false
+is_number : ℕ → Option ℕ → Bool
+is_number n (Some v) = eqb v n
+is_number n None = false
 
 is_closed : State → Bool
 is_closed state.Waiting = false

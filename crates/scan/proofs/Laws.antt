@@ -2,5 +2,4 @@ pub mod Below
 pub mod Bytes
 pub mod Conflict
 pub mod Empty
-pub mod Equal
 pub mod Order

@@ -1,4 +1,5 @@
 pub mod Below
+pub mod Blocks
 pub mod Bytes
 pub mod Conflict
 pub mod Empty

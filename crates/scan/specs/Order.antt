@@ -1,8 +1,5 @@
--- The lesser and the greater of two numbers. Assumes nothing.
-use Rattle.std.specs.Prelude.{ℕ, cond, ltb}
+-- The lesser of two numbers. Assumes nothing.
+use Rattle.std.specs.Prelude.{ℕ, min}
 
 unfoldable pub lesser : ℕ → ℕ → ℕ
-lesser a b = cond (ltb a b) a b
-
-unfoldable pub greater : ℕ → ℕ → ℕ
-greater a b = cond (ltb a b) b a
+lesser a b = min a b

@@ -1,13 +1,12 @@
 -- Digits and words of the papers, read and written. Each is computed. Assumes nothing.
-use Rattle.std.specs.Prelude.{◌≡◌, refl, true, false, [], ◌∷◌}
+use Rattle.std.specs.Prelude.{◌≡◌, refl, true, false, [], ◌∷◌, Some}
 use Rattle.wire.specs.Below.{all_below}
-use Rattle.text.specs.declared.hex.Digits.TheVariants as digits
 use Rattle.text.specs.Range.{within}
 use Rattle.text.specs.Hex.{digit_value, is_digit, number, read_digits, digit_of, spell_digits}
 use Rattle.text.specs.Word.{lowered, same_letter, spells}
 
 -- 01, P11: `0100` is 256
-pub p11 : read_digits (0x30 ∷ 0x31 ∷ 0x30 ∷ 0x30 ∷ []) ≡ digits.Number 256
+pub p11 : read_digits (0x30 ∷ 0x31 ∷ 0x30 ∷ 0x30 ∷ []) ≡ Some 256
 unfolding within all_below digit_value is_digit number read_digits
 p11 = refl
 

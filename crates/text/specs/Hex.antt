@@ -1,31 +1,30 @@
 -- Numbers in hexadecimal digits, over the number of digits. Assumes nothing.
-use Rattle.std.specs.Prelude.{ℕ, zero, suc, ◌+◌, ◌-◌, ◌*◌, ◌/◌, ◌%◌, List, [], ◌∷◌, ◌++◌, Bool, cond, ◌&&◌, leb, ltb, length, get_or}
-use Rattle.text.specs.declared.hex.Digits.{Digits}
-use Rattle.text.specs.declared.hex.Digits.TheVariants as digits
+use Rattle.std.specs.Prelude.{ℕ, zero, suc, ◌+◌, ◌-◌, ◌*◌, ◌/◌, ◌%◌, List, [], ◌∷◌, ◌++◌, Bool, cond, ◌&&◌, leb, length, get_or, Option, Some, None}
+use Rattle.std.specs.Option.{is_some, unwrap_or}
 use Rattle.wire.specs.Below.{all_below}
 use Rattle.text.specs.Range.{within}
 
--- the value of the hexadecimal digit b, in either case; 16 for any other byte
-unfoldable pub digit_value : ℕ → ℕ
+-- the value of the hexadecimal digit b, in either case; none for any other byte
+unfoldable pub digit_value : ℕ → Option ℕ
 digit_value b =
-    cond (within 0x30 0x39 b) (b - 0x30)
-    (cond (within 0x41 0x46 b) (b - 0x41 + 10)
-    (cond (within 0x61 0x66 b) (b - 0x61 + 10)
-    16))
+    cond (within 0x30 0x39 b) (Some (b - 0x30))
+    (cond (within 0x41 0x46 b) (Some (b - 0x41 + 10))
+    (cond (within 0x61 0x66 b) (Some (b - 0x61 + 10))
+    None))
 
 -- whether the byte at k is a hexadecimal digit
 unfoldable pub is_digit : List ℕ → ℕ → Bool
-is_digit s k = ltb (digit_value (get_or s k 0)) 16
+is_digit s k = is_some (digit_value (get_or s k 0))
 
 -- the number in the first n digits, the most significant first
 unfoldable pub number : ℕ → List ℕ → ℕ
 number zero s = 0
-number (suc n) s = 16 * number n s + digit_value (get_or s n 0)
+number (suc n) s = 16 * number n s + unwrap_or (digit_value (get_or s n 0)) 0
 
 -- what the bytes s say as hexadecimal digits: their number, where each of them is a digit and there are at most four
-unfoldable pub read_digits : List ℕ → Digits
+unfoldable pub read_digits : List ℕ → Option ℕ
 read_digits s =
-    cond (leb (length s) 4 && all_below (length s) (is_digit s)) (digits.Number (number (length s) s)) digits.NotHexadecimal
+    cond (leb (length s) 4 && all_below (length s) (is_digit s)) (Some (number (length s) s)) None
 
 -- the digits "0123456789ABCDEF"
 abbrev pub digit_table : List ℕ

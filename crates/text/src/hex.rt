@@ -2,43 +2,32 @@
 ghost use Rattle.std.specs.Prelude.{◌≡◌, ◌<◌, length};
 ghost use Rattle.text.specs.Hex.{digit_of, digit_value, read_digits, spell_digits};
 
-// What bytes say as hexadecimal digits.
-#[derive(Clone, Copy)]
-pub enum Digits {
-    Number(u16),
-    NotHexadecimal,
-}
-
-// The value of the digit `byte`, in either case; 16 for a byte that is no hexadecimal digit.
-pub fn digit(byte: u8) -> u16
+// The value of the digit `byte`, in either case; none for a byte that is no hexadecimal digit.
+#[tactic(auto, unfolding(crate::specs::Hex::digit_value, crate::specs::Range::within))]
+pub fn digit(byte: u8) -> Option<u16>
     ensures { result ≡ digit_value byte }
 {
     match byte {
-        b'0'..=b'9' => (byte - b'0') as u16,
-        b'A'..=b'F' => (byte - b'A') as u16 + 10,
-        b'a'..=b'f' => (byte - b'a') as u16 + 10,
-        _ => 16,
+        b'0'..=b'9' => Some(u16::from(byte - b'0')),
+        b'A'..=b'F' => Some(u16::from(byte - b'A') + 10),
+        b'a'..=b'f' => Some(u16::from(byte - b'a') + 10),
+        _ => None,
     }
 }
 
 // The number in `bytes`, where they are at most four hexadecimal digits.
-pub fn read(bytes: &[u8]) -> Digits
+pub fn read(bytes: &[u8]) -> Option<u16>
     ensures { result ≡ read_digits bytes.now }
 {
     if 4 < bytes.len() {
-        return Digits::NotHexadecimal;
+        return None;
     }
     let mut number: u16 = 0;
-    let mut k = 0;
-    while k < bytes.len() {
-        let value = digit(bytes[k]);
-        if 16 <= value {
-            return Digits::NotHexadecimal;
-        }
+    for byte in bytes {
+        let value = digit(*byte)?;
         number = number * 16 + value;
-        k += 1;
     }
-    Digits::Number(number)
+    Some(number)
 }
 
 // The digit of a value, in capitals. A match, which compiles to a table that is never copied.
@@ -72,9 +61,7 @@ pub fn write(out: &mut [u8], number: u16)
     ensures { out.new ≡ spell_digits (length out.old) number }
 {
     let mut rest = number;
-    let mut k = out.len();
-    while 0 < k {
-        k -= 1;
+    for k in (0..out.len()).rev() {
         out[k] = capital_digit((rest % 16) as u8);
         rest /= 16;
     }

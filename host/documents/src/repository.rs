@@ -108,12 +108,13 @@ pub fn text(root: &Path, file: &str) -> Result<String, String> {
     fs::read_to_string(root.join(file)).map_err(|error| format!("{file}: {error}"))
 }
 
-/// README and the files of docs/, but for PORT.md, which names what was beside what is.
+/// README and the files of docs/, but for PORT.md and DESIGN-PASS.md, which name what was beside what
+/// is.
 pub fn documents(root: &Path) -> Result<Vec<String>, String> {
     let mut found = vec!["README.md".to_string()];
     found
         .extend(files(&root.join("docs"), "md")?.into_keys().map(|name| format!("docs/{name}.md")));
-    found.retain(|name| name != "docs/PORT.md");
+    found.retain(|name| !["docs/PORT.md", "docs/DESIGN-PASS.md"].contains(&name.as_str()));
     Ok(found)
 }
 
@@ -166,13 +167,15 @@ fn definitions(text: &str) -> BTreeSet<String> {
     found
 }
 
-/// The definitions of type `Type 0`, which are statements.
+/// The definitions of type `Type 0`, which are statements, but for a type of values.
 fn statements(text: &str) -> Vec<String> {
     let name = |line: &str| {
         let marked = line.strip_prefix("abbrev pub ").or(line.strip_prefix("unfoldable pub "))?;
         Some(marked.strip_suffix(" : Type 0")?.to_string())
     };
-    text.lines().filter_map(name).filter(|name| !name.contains(' ')).collect()
+    let values = |name: &String| text.contains(&format!("\n{name} = Result "));
+    let stated = text.lines().filter_map(name).filter(|name| !name.contains(' '));
+    stated.filter(|name| !values(name)).collect()
 }
 
 /// Of each law, the first word of its type.

@@ -12,8 +12,7 @@ use lib.Seq.{drop-cons, drop-drop, drop_at, take_at, take_all, drop-length}
 use Rattle.wire.specs.declared.status.Status.TheVariants as status
 use Rattle.wire.specs.Splice.{part}
 use Rattle.wire.proofs.Laws.Splice.{length_part, part_of_splice}
-use Rattle.text.specs.declared.hex.Digits.{Digits}
-use Rattle.text.specs.declared.hex.Digits.TheVariants as digits
+use Rattle.std.proofs.Common.{Option, Some, None}
 use Rattle.cursor_limits.specs.declared.value.Xor.{Xor}
 use Rattle.cursor_limits.specs.declared.value.Xor.TheVariants as xor
 use Rattle.cursor_limits.specs.declared.value.Limits.{Limits}
@@ -76,7 +75,7 @@ other_length : (w s : List ℕ) → (length s ≡ length w → ⊥) → spells w
 unfolding spells
 other_length w s n = simp (ne_eqb (length s) (length w) n)
 
-field_read : {b : List ℕ} {v : ℕ} → HexDigs 4 b v → read_field (space ∷ b) ≡ digits.Number v
+field_read : {b : List ℕ} {v : ℕ} → HexDigs 4 b v → read_field (space ∷ b) ≡ Some v
 unfolding read_field
 field_read ds = hexdigs_read ds
 
@@ -105,12 +104,12 @@ means_read (supported cs) = caps_read cs
 
 -- What is read is a string of the grammar.
 
-field_means : (t : List ℕ) (v : ℕ) → length t ≡ 5 → read_field t ≡ digits.Number v → (t ≡ space ∷ drop 1 t) × HexDigs 4 (drop 1 t) v
+field_means : (t : List ℕ) (v : ℕ) → length t ≡ 5 → read_field t ≡ Some v → (t ≡ space ∷ drop 1 t) × HexDigs 4 (drop 1 t) v
 unfolding read_field
 field_means t v n e = go (eqb (get_or t 0 0) space) refl e
   where
     go
-        : (b : Bool) → eqb (get_or t 0 0) space ≡ b → cond b (read_digits (drop 1 t)) digits.NotHexadecimal ≡ digits.Number v
+        : (b : Bool) → eqb (get_or t 0 0) space ≡ b → cond b (read_digits (drop 1 t)) None ≡ Some v
         → (t ≡ space ∷ drop 1 t) × HexDigs 4 (drop 1 t) v
     go true h f =
         let first : get_or t 0 0 ≡ space = eqb-true (get_or t 0 0) space h in
@@ -139,12 +138,12 @@ unfolding read_limits
 limits_means x s v n xs e = go (read_field (part 4 5 s)) (read_field (part 9 5 s)) (read_field (part 14 5 s)) refl refl refl e
   where
     go
-        : (i j k : Digits) → read_field (part 4 5 s) ≡ i → read_field (part 9 5 s) ≡ j → read_field (part 14 5 s) ≡ k
+        : (i j k : Option ℕ) → read_field (part 4 5 s) ≡ i → read_field (part 9 5 s) ≡ j → read_field (part 14 5 s) ≡ k
         → limits_of x i j k ≡ answer.Accepted v → Means s v
-    go digits.NotHexadecimal j k p q r f = impossible (cc)
-    go (digits.Number w) digits.NotHexadecimal k p q r f = impossible (cc)
-    go (digits.Number w) (digits.Number h) digits.NotHexadecimal p q r f = impossible (cc)
-    go (digits.Number w) (digits.Number h) (digits.Number o) p q r f =
+    go None j k p q r f = impossible (cc)
+    go (Some w) None k p q r f = impossible (cc)
+    go (Some w) (Some h) None p q r f = impossible (cc)
+    go (Some w) (Some h) (Some o) p q r f =
         let width = field_means (part 4 5 s) w (length_part 4 5 s (omega arith)) p in
         let height = field_means (part 9 5 s) h (length_part 9 5 s (omega arith)) q in
         let port = field_means (part 14 5 s) o (length_part 14 5 s (omega arith)) r in
@@ -191,11 +190,11 @@ one_meaning s v w m n = let e = means_read m in let f = means_read n in cc
 abbrev Decided : Answer → Type 0
 Decided r = ((v : Value) × (r ≡ answer.Accepted v)) ⊎ (r ≡ not_grammar)
 
-decided_limits : (x : Xor) (i j k : Digits) → Decided (limits_of x i j k)
-decided_limits x digits.NotHexadecimal j k = inr refl
-decided_limits x (digits.Number w) digits.NotHexadecimal k = inr refl
-decided_limits x (digits.Number w) (digits.Number h) digits.NotHexadecimal = inr refl
-decided_limits x (digits.Number w) (digits.Number h) (digits.Number p) = inl (_, refl)
+decided_limits : (x : Xor) (i j k : Option ℕ) → Decided (limits_of x i j k)
+decided_limits x None j k = inr refl
+decided_limits x (Some w) None k = inr refl
+decided_limits x (Some w) (Some h) None = inr refl
+decided_limits x (Some w) (Some h) (Some p) = inl (_, refl)
 
 decided_fields : (x : Xor) (s : List ℕ) → Decided (read_limits x s)
 unfolding read_limits

@@ -4,14 +4,12 @@ use mathlib.Core.Path.{◌≡◌, refl, sym, ap, ◌∙◌}
 use mathlib.Core.List.{List, [], ◌∷◌, ◌++◌, append_assoc, append-nil}
 use native.Mathlib.Omega.{arith}
 use native.Mathlib.Numerals.{add-one}
-use borrow.Author.Tests.{le-leb, lt-leb}
 use borrow.Rule.Slice.PartMut.{put_mid}
 use lib.ListN.{length, get_or, take, drop, set, length-append, length-drop}
 use lib.Seq.{drop-append_seam, drop-cons, drop-length, length-take-le}
-use Rattle.wire.specs.declared.status.Status.TheVariants as status
 use Rattle.wire.specs.Splice.{splice}
 use Rattle.wire.specs.Laid.{laid}
-use Rattle.wire.proofs.Laws.Laid.{laid_fits, laid_short}
+use Rattle.wire.proofs.Laws.Laid.{laid_fits}
 use Rattle.text.specs.Abnf.{space}
 use Rattle.text.specs.Hex.{spell_digits}
 use Rattle.text.proofs.Laws.Hex.{length_digits}
@@ -19,9 +17,7 @@ use Rattle.wire.proofs.Laws.Splice.{length_splice, splice_next, part_back}
 use Rattle.cursor_limits.specs.declared.value.Xor.{Xor}
 use Rattle.cursor_limits.specs.declared.value.Xor.TheVariants as xor
 use Rattle.cursor_limits.specs.declared.value.Limits.{Limits}
-use Rattle.cursor_limits.specs.declared.value.Value.{Value}
-use Rattle.wire.specs.declared.written.Written.TheVariants as answer
-use Rattle.cursor_limits.specs.Writing.{spell_xor, spell_field, spell_limits, spelling, write_answer}
+use Rattle.cursor_limits.specs.Writing.{spell_xor, spell_field, spell_limits}
 
 pub length_xor : (x : Xor) → length (spell_xor x) ≡ 4
 length_xor xor.None = refl
@@ -110,17 +106,3 @@ limits_written l out room =
     let same : length (splice 4 fs out) ≡ length out = length_splice 4 fs out (omega arith) in
     rw (laid_fits x (splice 4 fs out) (omega arith), laid_fits (spell_limits l) out (omega arith), all)
     (ap (λ (m : ℕ). splice 0 x (splice m fs out)) (sym one) ∙ over_first x fs out (omega arith))
-
--- what a value of n bytes gives, where the output is too short and where it is not
-module _ (v : Value) (n : ℕ) (out : List ℕ) (size : length (spelling v) ≡ n) where
-  pub refused : length out < n → (answer.Refused status.NoRoom 0 ≡ write_answer v (length out)) × (out ≡ laid (spelling v) out)
-  unfolding write_answer
-  refused h =
-      let short : length out < length (spelling v) = omega arith in
-      (simp (lt-leb (length (spelling v)) (length out) short), sym (laid_short (spelling v) out short))
-
-  pub accepted
-      : (after : List ℕ) → n ≤ length out → after ≡ laid (spelling v) out
-      → (answer.Wrote n ≡ write_answer v (length out)) × (after ≡ laid (spelling v) out)
-  unfolding write_answer
-  accepted after h e = (simp (size, le-leb n (length out) h), e)

@@ -11,6 +11,7 @@ use Rattle.cursor_limits.specs.declared.value.Value.TheVariants as value
 use Rattle.wire.specs.Laid.{laid}
 use Rattle.limits_layout.specs.LimitsLayout.{xor_byte, xor_of, number_bytes, limits_bytes, limits_in, LimitsBack}
 use Rattle.wire.specs.LittleEndian.{number_at, bytes, written}
+use Rattle.wire.proofs.Laws.Laid.{laid_short}
 use Rattle.wire.proofs.Laws.Layout.{nothing, Begins, laid_begins, before, number_in}
 use Rattle.wire.proofs.Laws.Written.{next, whole}
 use Rattle.wire.proofs.Laws.Number.{length_bytes}
@@ -73,6 +74,10 @@ module _ (supported x w h p : ℕ) where
 pub length_limits : (v : Value) → length (limits_bytes v) ≡ 8
 length_limits value.NotSupported = length_numbers 0 0 0 0 0
 length_limits (value.Supported l) = length_numbers 1 (xor_byte l.xor) l.width l.height l.port
+
+-- where the bytes are fewer than the layout's
+pub limits_short : (v : Value) (xs : List ℕ) → length xs < 8 → laid (limits_bytes v) xs ≡ xs
+limits_short v xs h = let n = length_limits v in laid_short (limits_bytes v) xs (omega arith)
 
 xor_small : (x : Xor) → xor_byte x < 256
 xor_small xor.None = omega arith

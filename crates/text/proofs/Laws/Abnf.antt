@@ -5,11 +5,12 @@ use mathlib.Core.List.{List, [], ◌∷◌, ◌++◌, map, map-append}
 use mathlib.Core.Bool.{Bool, true, false, cond}
 use native.Mathlib.Omega.{arith}
 use native.Mathlib.Decide.{dec_lt}
-use borrow.Author.Tests.{lt-ltb, ltb-true, eq-eqb, eqb-true}
+use borrow.Author.Tests.{eq-eqb, eqb-true}
 use lib.Dec.{eqb}
 use lib.ListN.{length, get_or, take, length-append, get_or-append}
 use lib.Seq.{get_or_at, take-length, take-suc}
-use Rattle.text.specs.declared.hex.Digits.TheVariants as digits
+use Rattle.std.proofs.Common.{Option, Some, None}
+use Rattle.std.specs.Option.{is_some, unwrap_or}
 use Rattle.wire.specs.Below.{all_below}
 use Rattle.text.specs.Range.{within}
 use Rattle.text.specs.Abnf.{Letter, small, capital, Quoted, no_letter, letter, HexDig, decimal, upper, lower, HexDigs, no_digit, digit}
@@ -98,10 +99,10 @@ spells_quoted w s m e =
 
 -- Digits.
 
-hexdig_value : {b d : ℕ} → HexDig b d → digit_value b ≡ d
-hexdig_value (decimal d h) = decimal_value (48 + d) (omega arith) (omega arith) ∙ omega arith
-hexdig_value (upper d h) = upper_value (65 + d) (omega arith) (omega arith) ∙ omega arith
-hexdig_value (lower d h) = lower_value (97 + d) (omega arith) (omega arith) ∙ omega arith
+hexdig_value : {b d : ℕ} → HexDig b d → digit_value b ≡ Some d
+hexdig_value (decimal d h) = decimal_value (48 + d) (omega arith) (omega arith) ∙ ap Some (omega arith)
+hexdig_value (upper d h) = upper_value (65 + d) (omega arith) (omega arith) ∙ ap Some (omega arith)
+hexdig_value (lower d h) = lower_value (97 + d) (omega arith) (omega arith) ∙ ap Some (omega arith)
 
 hexdig_small : {b d : ℕ} → HexDig b d → d < 16
 hexdig_small (decimal d h) = omega arith
@@ -111,20 +112,20 @@ hexdig_small (lower d h) = omega arith
 hexdig_is : {b d : ℕ} (a e : ℕ) → HexDig b d → b ≡ a → d ≡ e → HexDig a e
 hexdig_is {b} {d} a e x p q = subst (λ (y : ℕ). HexDig y e) p (subst (λ (y : ℕ). HexDig b y) q x)
 
-value_hexdig : (b d : ℕ) → digit_value b ≡ d → d < 16 → HexDig b d
-value_hexdig b d e l = elim (dec_lt b 48) [
+value_hexdig : (b d : ℕ) → digit_value b ≡ Some d → HexDig b d
+value_hexdig b d e = elim (dec_lt b 48) [
   | yes h ↦ none (below 0x30 0x39 b h) (below 0x41 0x46 b (omega arith)) (below 0x61 0x66 b (omega arith))
   | no h ↦ elim (dec_lt 57 b) [
-    | no g ↦ let v = decimal_value b (omega arith) (omega arith) in hexdig_is b d (decimal (b - 48) (omega arith)) (omega arith) (omega arith)
+    | no g ↦ let v = decimal_value b (omega arith) (omega arith) in hexdig_is b d (decimal (b - 48) (omega arith)) (omega arith) (same_value v e (omega arith))
     | yes g ↦ elim (dec_lt b 65) [
       | yes f ↦ none (above 0x30 0x39 b g) (below 0x41 0x46 b f) (below 0x61 0x66 b (omega arith))
       | no f ↦ elim (dec_lt 70 b) [
-        | no j ↦ let v = upper_value b (omega arith) (omega arith) in hexdig_is b d (upper (b - 65) (omega arith)) (omega arith) (omega arith)
+        | no j ↦ let v = upper_value b (omega arith) (omega arith) in hexdig_is b d (upper (b - 65) (omega arith)) (omega arith) (same_value v e (omega arith))
         | yes j ↦ elim (dec_lt b 97) [
           | yes i ↦ none (above 0x30 0x39 b g) (above 0x41 0x46 b j) (below 0x61 0x66 b i)
           | no i ↦ elim (dec_lt 102 b) [
             | no k ↦
-                let v = lower_value b (omega arith) (omega arith) in hexdig_is b d (lower (b - 97) (omega arith)) (omega arith) (omega arith)
+                let v = lower_value b (omega arith) (omega arith) in hexdig_is b d (lower (b - 97) (omega arith)) (omega arith) (same_value v e (omega arith))
             | yes k ↦ none (above 0x30 0x39 b g) (above 0x41 0x46 b j) (above 0x61 0x66 b k)
           ]
         ]
@@ -134,7 +135,10 @@ value_hexdig b d e l = elim (dec_lt b 48) [
 ]
   where
     none : within 0x30 0x39 b ≡ false → within 0x41 0x46 b ≡ false → within 0x61 0x66 b ≡ false → HexDig b d
-    none p q r = let v = no_value b p q r in absurd (let no : ⊥ = omega arith in no)
+    none p q r = let v = no_value b p q r in absurd (cc)
+
+    same_value : {x y : ℕ} → digit_value b ≡ Some x → digit_value b ≡ Some d → y ≡ x → y ≡ d
+    same_value v w q = let f : Some _ ≡ Some d = sym v ∙ w in cc
 
 -- reading looks at the first n bytes alone
 number_same : (n : ℕ) (s t : List ℕ) → ((k : ℕ) → k < n → get_or s k 0 ≡ get_or t k 0) → number n s ≡ number n t
@@ -145,11 +149,11 @@ number_same (suc n) s t e = rw (number_same n s t (λ k h. e k (omega arith)), e
 -- n digits of the grammar are n bytes, each a digit, and their number
 record Digital (n : ℕ) (s : List ℕ) (v : ℕ) : Type 0 where
   size : length s ≡ n
-  each : (k : ℕ) → k < n → digit_value (get_or s k 0) < 16
+  each : (k : ℕ) → k < n → is_digit s k ≡ true
   value : number n s ≡ v
 
 hexdigs_digital : {n v : ℕ} {s : List ℕ} → HexDigs n s v → Digital n s v
-unfolding number
+unfolding number is_digit
 hexdigs_digital no_digit = record { size = refl; each = λ k h. absurd (let no : ⊥ = omega arith in no); value = refl }
 hexdigs_digital (digit {n} {v} {b} {d} {s} ds x) =
     let front = hexdigs_digital ds in
@@ -161,36 +165,40 @@ hexdigs_digital (digit {n} {v} {b} {d} {s} ds x) =
         | yes l ↦ rw (same k l) (front.each k l)
         | no l ↦
             let e : k ≡ n = omega arith in
-            rw (e, last, hexdig_value x) (hexdig_small x)
+            rw (e, last, hexdig_value x)
       ];
       value = rw (number_same n (s ++ (b ∷ [])) s same, front.value, last, hexdig_value x);
     }
 
-digital_hexdigs : (n : ℕ) (s : List ℕ) → n ≤ length s → ((k : ℕ) → k < n → digit_value (get_or s k 0) < 16) → HexDigs n (take n s) (number n s)
-unfolding number
+some_of : (o : Option ℕ) → is_some o ≡ true → o ≡ Some (unwrap_or o 0)
+some_of None e = cc
+some_of (Some d) e = refl
+
+digital_hexdigs : (n : ℕ) (s : List ℕ) → n ≤ length s → ((k : ℕ) → k < n → is_digit s k ≡ true) → HexDigs n (take n s) (number n s)
+unfolding number is_digit
 digital_hexdigs zero s h e = no_digit
 digital_hexdigs (suc n) s h e =
     subst (λ (l : List ℕ). HexDigs (suc n) l (number (suc n) s)) (sym (take-suc s n 0 h))
-    (digit (digital_hexdigs n s (omega arith) (λ k l. e k (omega arith))) (value_hexdig (get_or s n 0) _ refl (e n (omega arith))))
+    (digit (digital_hexdigs n s (omega arith) (λ k l. e k (omega arith))) (value_hexdig (get_or s n 0) _ (some_of (digit_value (get_or s n 0)) (e n (omega arith)))))
 
 -- four digits of the grammar are what `read_digits` accepts of four bytes
-pub hexdigs_read : {s : List ℕ} {v : ℕ} → HexDigs 4 s v → read_digits s ≡ digits.Number v
+pub hexdigs_read : {s : List ℕ} {v : ℕ} → HexDigs 4 s v → read_digits s ≡ Some v
 unfolding read_digits is_digit
 hexdigs_read {s} {v} ds =
     let d = hexdigs_digital ds in
-    let each : all_below 4 (is_digit s) ≡ true = all_below_lem (is_digit s) 4 (λ k l. lt-ltb (digit_value (get_or s k 0)) 16 (d.each k l)) in
+    let each : all_below 4 (is_digit s) ≡ true = all_below_lem (is_digit s) 4 d.each in
     simp (d.size, each, d.value)
 
-pub read_hexdigs : (s : List ℕ) (v : ℕ) → length s ≡ 4 → read_digits s ≡ digits.Number v → HexDigs 4 s v
+pub read_hexdigs : (s : List ℕ) (v : ℕ) → length s ≡ 4 → read_digits s ≡ Some v → HexDigs 4 s v
 unfolding read_digits is_digit
 read_hexdigs s v h e = go (all_below 4 (is_digit s)) refl (rw h at e)
   where
-    go : (b : Bool) → all_below 4 (is_digit s) ≡ b → cond b (digits.Number (number 4 s)) digits.NotHexadecimal ≡ digits.Number v → HexDigs 4 s v
+    go : (b : Bool) → all_below 4 (is_digit s) ≡ b → cond b (Some (number 4 s)) None ≡ Some v → HexDigs 4 s v
     go true t f =
         let n : number 4 s ≡ v = cc in
         let l : take 4 s ≡ s = rw (sym h) (take-length s) in
         subst (λ (u : ℕ). HexDigs 4 s u) n (subst (λ (u : List ℕ). HexDigs 4 u (number 4 s)) l
-        (digital_hexdigs 4 s (omega arith) (λ k j. ltb-true (digit_value (get_or s k 0)) 16 (below_all (is_digit s) 4 t k j))))
+        (digital_hexdigs 4 s (omega arith) (below_all (is_digit s) 4 t)))
     go false t f = impossible (cc)
 
 pub hexdigs_small : {n v : ℕ} {s : List ℕ} → HexDigs n s v → v < 16 ^ n
@@ -201,9 +209,11 @@ pub hexdigs_length : {n v : ℕ} {s : List ℕ} → HexDigs n s v → length s �
 hexdigs_length ds = (hexdigs_digital ds).size
 
 -- the table's rule: the digit of each value has that value
-digit_of_value : (d : ℕ) → d < 16 → digit_value (digit_of d) ≡ d
+digit_of_value : (d : ℕ) → d < 16 → digit_value (digit_of d) ≡ Some d
 unfolding digit_value digit_of within all_below
-digit_of_value = computed 16 (λ d. digit_value (digit_of d)) (λ d. d) refl
+digit_of_value d h =
+    let v = digit_value (digit_of d) in
+    some_of v (below_all (λ k. is_some (digit_value (digit_of k))) 16 refl d h) ∙ ap Some (computed 16 (λ k. unwrap_or (digit_value (digit_of k)) 0) (λ k. k) refl d h)
 
 -- what is spelled are digits of the grammar
 pub spelled_hexdigs : (n v : ℕ) → v < 16 ^ n → HexDigs n (spell_digits n v) v
@@ -213,7 +223,7 @@ spelled_hexdigs (suc n) v h =
     let e : 16 * (v / 16) + v % 16 ≡ v = omega arith in
     let small : v % 16 < 16 = omega arith in
     subst (λ (u : ℕ). HexDigs (suc n) (spell_digits (suc n) v) u) e
-    (digit (spelled_hexdigs n (v / 16) (omega arith)) (value_hexdig (digit_of (v % 16)) (v % 16) (digit_of_value (v % 16) small) small))
+    (digit (spelled_hexdigs n (v / 16) (omega arith)) (value_hexdig (digit_of (v % 16)) (v % 16) (digit_of_value (v % 16) small)))
 
 -- the digit of a value is that which was read, in capitals: the table's rule by the grammar's three ranges
 hexdig_raised : {b d : ℕ} → HexDig b d → digit_of d ≡ raised b

@@ -4,39 +4,36 @@ use mathlib.Core.Path.{◌≡◌, refl, sym}
 use mathlib.Core.Bool.{false}
 use mathlib.Core.List.{List, ◌++◌}
 use native.Mathlib.Omega.{arith}
-use native.Mathlib.Numerals.{add-one}
-use lib.ListN.{length, get_or, drop, set, length-append}
-use lib.Pow.{pow-add}
+use lib.ListN.{length, drop, set, length-append}
 use lib.Seq.{append_snoc, drop-cons, drop-set-lt, get_or-set_same, lt-length-set}
+use Rattle.std.proofs.Common.{Some, None}
+use Rattle.std.proofs.lemmas.Bool.Decides.{nat_tests}
 use Rattle.text.specs.Range.{within}
-use Rattle.text.specs.Hex.{digit_value, number, digit_of, spell_digits}
+use Rattle.text.specs.Hex.{digit_value, digit_of, spell_digits}
 use Rattle.text.proofs.Laws.Range.{inside, above}
 
 -- the value of a digit by its range
 module _ (b : ℕ) where
-  pub decimal_value : 0x30 ≤ b → b ≤ 0x39 → digit_value b ≡ b - 0x30
+  pub decimal_value : 0x30 ≤ b → b ≤ 0x39 → digit_value b ≡ Some (b - 0x30)
   unfolding digit_value
   decimal_value l h = simp (inside 0x30 0x39 b l h)
 
-  pub upper_value : 0x41 ≤ b → b ≤ 0x46 → digit_value b ≡ b - 0x41 + 10
+  pub upper_value : 0x41 ≤ b → b ≤ 0x46 → digit_value b ≡ Some (b - 0x41 + 10)
   unfolding digit_value
   upper_value l h = simp (above 0x30 0x39 b (omega arith), inside 0x41 0x46 b l h)
 
-  pub lower_value : 0x61 ≤ b → b ≤ 0x66 → digit_value b ≡ b - 0x61 + 10
+  pub lower_value : 0x61 ≤ b → b ≤ 0x66 → digit_value b ≡ Some (b - 0x61 + 10)
   unfolding digit_value
   lower_value l h = simp (above 0x30 0x39 b (omega arith), above 0x41 0x46 b (omega arith), inside 0x61 0x66 b l h)
 
-  pub no_value : within 0x30 0x39 b ≡ false → within 0x41 0x46 b ≡ false → within 0x61 0x66 b ≡ false → digit_value b ≡ 16
+  pub no_value : within 0x30 0x39 b ≡ false → within 0x41 0x46 b ≡ false → within 0x61 0x66 b ≡ false → digit_value b ≡ None
   unfolding digit_value
   no_value d u l = simp (d, u, l)
 
--- one digit more
-pub number_more : (s : List ℕ) (n v d : ℕ) → v ≡ number n s → d ≡ digit_value (get_or s n 0) → v * 16 + d ≡ number (n + 1) s
-unfolding number
-number_more s n v d e f = rw add-one (omega arith)
-
-pub more_small : (n v d : ℕ) → v < 16 ^ n → d < 16 → v * 16 + d < 16 ^ (n + 1)
-more_small n v d h l = rw (pow-add 16 n 1) (omega arith)
+-- a digit's value is below 16
+pub digit_small : (b d : ℕ) → digit_value b ≡ Some d → d < 16
+unfolding digit_value within
+digit_small b d e = grind (arith, nat_tests)
 
 -- four digits fit in 16 bits
 pub four_small : (n v : ℕ) → n < 4 → v < 16 ^ n → v * 16 + 15 < 65536

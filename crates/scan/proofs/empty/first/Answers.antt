@@ -1,17 +1,34 @@
 -- No place that a block skipped is empty. Assumes nothing.
+use Rattle.std.proofs.Common.{◌≡◌, ℕ, ◌+◌, Bool, List, [], ◌∷◌, refl, eqb, drop, length, ◌∙◌, arith, rules}
+use Rattle.std.proofs.lemmas.Grind.{common_steps}
+use Rattle.std.specs.List.{position, position_or_len}
+use Rattle.std.specs.Option.{unwrap_or}
+use Rattle.std.proofs.lemmas.Iterator.{YieldsList-from_slice}
+use Rattle.std.proofs.lemmas.Iterator.Search.{position_from_yields_List}
+use borrow.Author.Tests.{tests}
 use native.Mathlib.Decide.{dec_lt}
-use native.Mathlib.Omega.{arith}
+use Rattle.scan.specs.Empty.{first_empty}
+use Rattle.scan.proofs.Laws.Empty.{first_from}
 use Rattle.scan.proofs.empty.first.Goals as goal
 
-pub first_from-requires : goal.first_from-requires
-first_from-requires c = (
-  omega arith,
-  λ j h.
-      elim (dec_lt j c.skip-wide.result) [
-        | yes l ↦ c.skip-wide.ensures.1 j (omega arith) l
-        | no l ↦ c.skip-narrow.ensures.1 j (omega arith) h
-      ],
-)
+abbrev is_empty : ℕ → Bool
+is_empty m = eqb m 0
+
+position_or : (ms : List ℕ) → unwrap_or (position is_empty ms) (length ms) ≡ position_or_len is_empty ms
+position_or [] = refl
+position_or (m ∷ ms) = grind (arith, common_steps, position_or ms)
 
 pub returns : goal.returns
-returns c = c.first_from.ensures
+unfolding first_empty
+returns c =
+    let m = c.args.marks.now in
+    let from = c.skip-narrow.result in
+    let after : first_empty m ≡ from + first_empty (drop from m)
+    = first_from m from (omega arith) (λ j l. elim (dec_lt j c.skip-wide.result) [
+      | yes h ↦ let w = c.skip-wide.ensures.skipped j (omega arith) h in search rules
+      | no h ↦ let w = c.skip-narrow.ensures.skipped j (omega arith) l in search rules
+    ]) in
+    let found
+    = position_from_yields_List is_empty _ _ c.position-place.result c.position-place.ensures.ran (YieldsList-from_slice (drop from m) (grind (arith, common_steps))) (λ x b q k. search (rules, tests)) in
+    let rest : c.unwrap_or.result ≡ unwrap_or c.position-place.result (length (drop from m)) = c.unwrap_or.ensures ∙ grind (arith, common_steps) in
+    rw (after, rest, found, position_or (drop from m))

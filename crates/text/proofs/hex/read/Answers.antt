@@ -1,56 +1,57 @@
--- The first k bytes are digits, and `number` is the number in them. Assumes nothing.
-use mathlib.Core.Path.{◌≡◌, refl, sym}
-use mathlib.Core.Bool.{true, false}
-use native.Mathlib.Omega.{arith}
-use borrow.Author.Tests.{le-leb, lt-leb, lt-ltb, le-ltb}
-use lib.Dec.{leb}
-use lib.ListN.{length}
+-- The bytes so far are digits, and `number` is the number in them. Assumes nothing.
+use Rattle.std.proofs.Common.{◌≡◌, true, length, get_or, Some, refl, sym, arith}
+use native.Mathlib.Numerals.{add-one}
+use borrow.Author.Tests.{le-leb, lt-leb}
 use Rattle.wire.specs.Below.{all_below}
-use Rattle.text.specs.Hex.{is_digit, number, read_digits}
 use Rattle.wire.proofs.Laws.Below.{one_below, below_next}
-use Rattle.text.proofs.Laws.Hex.{number_more, more_small}
+use Rattle.text.specs.Hex.{digit_value, is_digit, number, read_digits}
+use Rattle.text.proofs.Laws.Hex.{digit_small, four_small}
 use Rattle.text.proofs.hex.read.Goals as goal
 
 pub returns-then-bytes-gt4 : goal.returns-then-bytes-gt4
 unfolding read_digits
-returns-then-bytes-gt4 c =
-    let s = c.args.bytes.now in
-    let long : leb (length s) 4 ≡ false = lt-leb _ _ c.if-bytes-gt4.true in
-    simp long
+returns-then-bytes-gt4 c = simp (lt-leb (length c.args.bytes.now) 4 c.if-bytes-gt4.true)
 
-pub loop-k-init : goal.loop-k-init
+pub loop-byte-init : goal.loop-byte-init
 unfolding all_below number
-loop-k-init c = (omega arith, refl, refl, omega arith)
+loop-byte-init c = record { digits = refl; value = refl; small = omega arith }
 
-pub returns-then-value-ge16 : goal.returns-then-value-ge16
+pub returns-in_err-value : goal.returns-in_err-value
 unfolding read_digits is_digit
-returns-then-value-ge16 c =
-    let d = c.digit-value in
+returns-in_err-value c =
     let s = c.args.bytes.now in
-    let k = c.loop-k.k in
+    let k = c.loop-byte.byte-index in
     simp (
       le-leb (length s) 4 c.if-bytes-gt4.false,
-      one_below (is_digit s) (length s) k c.loop-k-test.true (rw (sym d.ensures) (le-ltb d.result 16 c.if-value-ge16.true)),
+      one_below (is_digit s) (length s) k c.loop-byte-test.true (simp (← c.in_err-value.ensures)),
+      c.from_residual.ensures,
     )
 
-pub loop-k-preserved : goal.loop-k-preserved
-unfolding is_digit
-loop-k-preserved c =
-    let d = c.digit-value in
+pub overflow_add-number : goal.overflow_add-number
+overflow_add-number c =
+    let l = c.loop-byte in
+    let f = digit_small (get_or c.args.bytes.now l.byte-index 0) c.in_ok-value.value (sym c.in_ok-value.ensures) in
+    let g = four_small l.byte-index l.number (omega arith) l.invariant.small in
+    omega arith
+
+pub loop-byte-preserved : goal.loop-byte-preserved
+unfolding is_digit number
+loop-byte-preserved c =
     let s = c.args.bytes.now in
-    let l = c.loop-k in (
-      omega arith,
-      below_next (is_digit s) l.k l.invariant.1 (rw (sym d.ensures) (lt-ltb d.result 16 c.if-value-ge16.false)),
-      number_more s l.k l.number d.result l.invariant.2 d.ensures,
-      more_small l.k l.number d.result l.invariant.3 c.if-value-ge16.false,
-    )
+    let l = c.loop-byte in
+    let d : digit_value (get_or s l.byte-index 0) ≡ Some c.in_ok-value.value = sym c.in_ok-value.ensures in
+    record {
+      digits = below_next (is_digit s) l.byte-index l.invariant.digits (simp d);
+      value = rw (add-one, d) (omega (arith, l.invariant.value));
+      small = let f = digit_small (get_or s l.byte-index 0) c.in_ok-value.value d in rw add-one (omega arith);
+    }
 
 pub returns : goal.returns
 unfolding read_digits
 returns c =
-    let l = c.loop-k in
+    let l = c.loop-byte in
     let s = c.args.bytes.now in
-    let e : l.k ≡ length s = omega arith in
-    let all : all_below (length s) (is_digit s) ≡ true = rw e at l.invariant.1 in
-    let is : l.number ≡ number (length s) s = rw e at l.invariant.2 in
+    let e : l.byte-index ≡ length s = omega arith in
+    let all : all_below (length s) (is_digit s) ≡ true = rw e at l.invariant.digits in
+    let is : l.number ≡ number (length s) s = rw e at l.invariant.value in
     simp (le-leb (length s) 4 c.if-bytes-gt4.false, all, is)
