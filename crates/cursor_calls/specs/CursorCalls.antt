@@ -2,11 +2,9 @@
 use Rattle.std.specs.Prelude.{ℕ, ◌≡◌, Bool, cond, ◌&&◌, List, leb, length, Result, Ok, Err}
 use Rattle.wire.specs.declared.status.Refusal.TheVariants as refusal
 use Rattle.wire.specs.declared.status.Refused.{Refused}
-use Rattle.wire.specs.Status.{refused_at}
-use Rattle.wire.specs.Numbered.{numbered, accepted_as, refused_as}
 use Rattle.cursor_pointer.specs.declared.Pointer.{Pointer}
 use Rattle.cursor_pointer.specs.Pointer.{positioned}
-use Rattle.cursor_picture.specs.Completeness.{completeness, is_yes}
+use Rattle.cursor_picture.specs.Completeness.{completeness}
 use Rattle.cursor_store.specs.declared.storing.Stored.{Stored}
 use Rattle.cursor_store.specs.Assembling.{Outcome}
 use Rattle.cursor_store.specs.Storing.{moves, stored}
@@ -15,7 +13,7 @@ use Rattle.cursor_layout.specs.PointerLayout.{pointer_length, pointer_bytes, poi
 use Rattle.cursor_layout.specs.PictureLayout.{picture_length, picture_of, picture_left}
 use Rattle.host_answers.specs.declared.Answer.{Answer}
 use Rattle.host_answers.specs.declared.Yes.{Yes}
-use Rattle.host_answers.specs.Answers.{answer_as, short}
+use Rattle.host_answers.specs.Answers.{accepted, refused, short, answer_of, not_answered, yes_of}
 
 -- The call for positions.
 
@@ -33,7 +31,7 @@ pointer_set (Ok p) ps = laid (pointer_bytes p) ps
 pointer_set (Err r) ps = ps
 
 abbrev pub position_answered : Result Pointer Refused → List ℕ → PositionOutcome
-position_answered a ps = after_position (answer_as (numbered a)) (pointer_set a ps)
+position_answered a ps = after_position (answer_of a) (pointer_set a ps)
 
 unfoldable pub cursor_position : List ℕ → List ℕ → PositionOutcome
 cursor_position ps packet =
@@ -63,8 +61,8 @@ pointer_left packet after ps = cond (moves (pointer_of ps) packet) (laid (pointe
 -- the pointer and the picture's record, each as the packet leaves it, go into the records ps and qs; a refusal changes neither
 abbrev pub store_answered : List ℕ → Result Stored Refused → List ℕ → List ℕ → List ℕ → List ℕ → StoreOutcome
 store_answered packet (Ok x) ps qs image marks =
-    after_store (answer_as accepted_as) (pointer_left packet x.pointer ps) (picture_left (picture_of qs) x.picture qs) image marks
-store_answered packet (Err r) ps qs image marks = after_store (answer_as (refused_as r)) ps qs image marks
+    after_store accepted (pointer_left packet x.pointer ps) (picture_left (picture_of qs) x.picture qs) image marks
+store_answered packet (Err r) ps qs image marks = after_store (refused (r.refusal) (r.place)) ps qs image marks
 
 -- with the image and the marks as the call leaves them
 abbrev pub all_answered : List ℕ → Outcome (Result Stored Refused) → List ℕ → List ℕ → StoreOutcome
@@ -78,14 +76,11 @@ cursor_store ps qs packet image marks =
 
 -- The completeness question: a refusal by its number.
 
-abbrev pub yes_or_no : Result Bool Refused → Yes
-yes_or_no a = record { status = (numbered a).number; yes = is_yes a }
-
 unfoldable pub cursor_complete : List ℕ → List ℕ → List ℕ → Yes
 cursor_complete qs image marks =
     cond (leb picture_length (length qs))
-    (yes_or_no (completeness (picture_of qs) (length image) marks))
-    (yes_or_no (Err (refused_at refusal.NoRoom 0)))
+    (yes_of (completeness (picture_of qs) (length image) marks))
+    (not_answered refusal.NoRoom)
 
 -- A refusal changes no lent byte: what a refused call leaves is what was lent. The proofs stand in proofs/Laws/CursorCalls.antt.
 

@@ -1,6 +1,6 @@
 -- The completeness question (01, "Cursor packets": "The completeness question is 17 first; with no picture open its answer is no"; "Total
 -- 0 is allowed, and is complete once a start is seen"). Assumes nothing.
-use Rattle.std.specs.Prelude.{ℕ, ◌≡◌, Bool, false, cond, ◌&&◌, List, eqb, length, take, Result, Ok, Err}
+use Rattle.std.specs.Prelude.{ℕ, ◌≡◌, Bool, cond, ◌&&◌, List, eqb, length, take, Result, Ok, Err}
 use Rattle.wire.specs.declared.status.Refusal.TheVariants as refusal
 use Rattle.wire.specs.declared.status.Refused.{Refused}
 use Rattle.wire.specs.Status.{refused_at}
@@ -21,11 +21,6 @@ all_filled marks total = eqb (first_empty_of marks total) total
 unfoldable pub completeness : Picture → ℕ → List ℕ → Result Bool Refused
 completeness q image marks =
     cond (held q image (length marks)) (Ok (q.opened && (q.seen && all_filled marks q.total))) (Err (refused_at refusal.ImageNotHeld 0))
-
--- yes or no; a refusal is no yes
-abbrev pub is_yes : Result Bool Refused → Bool
-is_yes (Ok b) = b
-is_yes (Err r) = false
 
 -- The question is 17 exactly where the opened picture is not held, and else answered. The proof stands in proofs/Laws/Completeness.antt.
 abbrev pub NumberByHeld : Type 0

@@ -24,7 +24,7 @@ use Rattle.cursor_store.proofs.Laws.Calls.{number_by_checks as store-by-checks}
 use Rattle.cursor_store.proofs.Laws.Storing.{stored_as, stored_is, stored_with}
 use Rattle.cursor_layout.specs.PointerLayout.{pointer_length, pointer_of}
 use Rattle.cursor_layout.specs.PictureLayout.{picture_of}
-use Rattle.host_answers.specs.Answers.{short}
+use Rattle.host_answers.specs.Answers.{answer_of, short}
 use Rattle.cursor_calls.specs.CursorCalls.{PositionOutcome, after_position, position_answered, cursor_position, records_whole, StoreOutcome, after_store, store_answered, all_answered, cursor_store, PositionRefusalKeeps, StoreRefusalKeeps}
 
 module _ (ps packet : List ℕ) where
@@ -54,6 +54,10 @@ module _ (ps qs packet image marks : List ℕ) where
 
 -- The number of each answer: 10 for a short record, else that of the checks.
 
+answer_number : {A : Type 0} (a : Result A Refused) → (answer_of a).status ≡ (numbered a).number
+answer_number (Ok x) = refl
+answer_number (Err r) = refl
+
 pub position_number
     : (ps packet : List ℕ)
     → (cursor_position ps packet).answer.status ≡ cond (leb pointer_length (length ps)) (number_of (position_status (pointer_of ps) packet)) 10
@@ -62,7 +66,7 @@ position_number ps packet = go (leb pointer_length (length ps))
   where
     go : (b : Bool) → (cond b (position_answered (positioned (pointer_of ps) packet) ps) (after_position short ps)).answer.status
         ≡ cond b (number_of (position_status (pointer_of ps) packet)) 10
-    go true = ap (λ (n : Numbered). n.number) (position-by-checks (pointer_of ps) packet)
+    go true = answer_number (positioned (pointer_of ps) packet) ∙ ap (λ (n : Numbered). n.number) (position-by-checks (pointer_of ps) packet)
     go false = refl
 
 pub store_number
@@ -72,9 +76,9 @@ pub store_number
 unfolding cursor_store
 store_number ps qs packet image marks = go (records_whole (length ps) (length qs))
   where
-    answer_number : (x : Result Stored Refused) (bytes filled : List ℕ) → (store_answered packet x ps qs bytes filled).answer.status ≡ (numbered x).number
-    answer_number (Ok y) bytes filled = refl
-    answer_number (Err r) bytes filled = refl
+    stored_number : (x : Result Stored Refused) (bytes filled : List ℕ) → (store_answered packet x ps qs bytes filled).answer.status ≡ (numbered x).number
+    stored_number (Ok y) bytes filled = refl
+    stored_number (Err r) bytes filled = refl
 
     s : State
     s = record { pointer = pointer_of ps; picture = picture_of qs; image = image; marks = marks }
@@ -84,7 +88,7 @@ store_number ps qs packet image marks = go (records_whole (length ps) (length qs
 
     go : (b : Bool) → (cond b (all_answered packet after ps qs) (after_store short ps qs image marks)).answer.status
         ≡ cond b (number_of (store_status (picture_of qs) packet image marks)) 10
-    go true = answer_number after.answer after.image after.marks ∙ ap (λ (n : Numbered). n.number) (store-by-checks s packet)
+    go true = stored_number after.answer after.image after.marks ∙ ap (λ (n : Numbered). n.number) (store-by-checks s packet)
     go false = refl
 
 -- A refusal keeps everything: by the outcomes.

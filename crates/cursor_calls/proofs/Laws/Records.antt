@@ -36,14 +36,15 @@ use Rattle.cursor_store.specs.Storing.{moves, pointer_after}
 use Rattle.cursor_store.specs.Receiver.{Call, fragment, other, packet_of, run}
 use Rattle.cursor_store.specs.Calls.{State, is_accepted, answered, kept, next, by_value}
 use Rattle.cursor_store.specs.DemandThree.{Whole, total_of, Taken, Given, covered, started, AllAccepted}
-use Rattle.cursor_store.proofs.Laws.Storing.{pointer_kept, stored_as, stored_is}
+use Rattle.cursor_store.proofs.Laws.Storing.{pointer_start, pointer_kept, stored_as, stored_is}
 use Rattle.cursor_store.proofs.Laws.DemandThree.{demand_three}
 use Rattle.cursor_layout.specs.PointerLayout.{pointer_length, pointer_bytes, pointer_of}
 use Rattle.cursor_layout.specs.PictureLayout.{picture_length, picture_of, picture_left, PictureFits}
 use Rattle.cursor_layout.proofs.Laws.PointerLayout.{signed_small, pointer_reads_back, pointer_bytes_lem}
 use Rattle.cursor_layout.proofs.Laws.PictureLayout.{picture_fits, left_reads, left_length, left_bytes}
 use Rattle.host_answers.specs.declared.Yes.{Yes}
-use Rattle.cursor_calls.specs.CursorCalls.{records_whole, pointer_left, StoreOutcome, all_answered, cursor_store, yes_or_no, cursor_complete}
+use Rattle.host_answers.specs.Answers.{yes_of}
+use Rattle.cursor_calls.specs.CursorCalls.{records_whole, pointer_left, StoreOutcome, all_answered, cursor_store, cursor_complete}
 use Rattle.cursor_calls.specs.Records.{Lent, called, next_lent, RecordsLent, PacketsLent, over_records, decoded, StoredFits, RunDecoded, DemandThreeOverRecords}
 
 -- What an accepted packet leaves fits the layouts.
@@ -81,8 +82,8 @@ module _ (packet : List ℕ) (small : Bytes packet) where
   set = record { known = true; sequence = number 2 packet 2; x = signed 2 (number 2 packet 21); y = signed 2 (number 2 packet 23) }
 
   moved_is : (p : Pointer) → moves p packet ≡ true → pointer_after p packet ≡ set
-  unfolding moves moved_to position_at pointer_after
-  moved_is p e = let r = both _ _ e in simp (r.0, r.1)
+  unfolding moves moved_to position_at
+  moved_is p e = let r = both _ _ e in pointer_start p packet r.0 ∙ simp r.1
 
   module _ (ps : List ℕ) where
     abbrev after : Pointer
@@ -183,7 +184,7 @@ module _ (s : Lent) (r : RecordsLent s) (packet : List ℕ) where
 
 -- The completeness question.
 
-is_yes : (a : Result Bool Refused) → yes_or_no a ≡ record { status = 0; yes = true } → a ≡ Ok true
+is_yes : (a : Result Bool Refused) → yes_of a ≡ record { status = 0; yes = true } → a ≡ Ok true
 is_yes (Ok true) h = refl
 is_yes (Ok false) h = absurd (false≢true (ap (λ (y : Yes). y.yes) h))
 is_yes (Err r) h = absurd (false≢true (ap (λ (y : Yes). y.yes) h))
@@ -195,7 +196,7 @@ unfolding cursor_complete
 complete_same s r =
     let there : leb picture_length (length s.picture) ≡ true = le-leb _ _ (lengths s r).1 in (
       λ h. is_yes (completeness (picture_of s.picture) (length s.image) s.marks) (simp there at h),
-      λ h. simp there (ap yes_or_no h),
+      λ h. simp there (ap yes_of h),
     )
 
 -- Lists of calls.

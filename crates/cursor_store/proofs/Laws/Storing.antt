@@ -16,6 +16,13 @@ use Rattle.cursor_store.specs.declared.storing.Stored.{Stored}
 use Rattle.cursor_store.specs.Assembling.{store_status, image_after, marks_after, picture_after, Outcome, outcome, assembled_as, assembled}
 use Rattle.cursor_store.specs.Storing.{moves, pointer_after, with_pointer, stored, PointerKept}
 
+-- the pointer after a start
+pub pointer_start
+    : (p : Pointer) (packet : List ℕ) → is_start packet ≡ true
+    → pointer_after p packet ≡ moved_to p (start_position packet).sequence (start_position packet).x (start_position packet).y
+unfolding pointer_after
+pointer_start p packet e = simp e
+
 pub pointer_kept : PointerKept
 unfolding pointer_after moves moved_to
 pointer_kept p packet e = go (is_start packet) e
