@@ -1,6 +1,5 @@
 // The walk over a message: each TLV is checked, and its value is noted by its type.
 ghost use Rattle.std.specs.Prelude.{◌≡◌, ◌+◌, ◌*◌, ◌≤◌, ◌<◌, length};
-ghost use Rattle.wire.specs.Status.{refused_at};
 ghost use Rattle.message_rules.specs.Record.{empty_of};
 ghost use Rattle.message_reader.specs.Reading.{has_needed, is_complete, tlvs_from, read_message};
 ghost use Rattle.message_reader.specs.Values.{none, message_from, values_after, command_of};
@@ -22,15 +21,6 @@ pub const NONE: Values = [Field {
     at: 0,
     len: 0,
 }; 8];
-
-// The refusal of a message, of which no value is left.
-fn refuse(values: &mut Values, refusal: Refusal, place: usize) -> Refused
-    ensures answer { result ≡ refused_at refusal place }
-    ensures values { values.new ≡ none }
-{
-    *values = NONE;
-    Refused { refusal, place }
-}
 
 // Whether a type that the command needs is there.
 #[tactic(auto, using(crate::proofs::Laws::Values::needed_found))]
@@ -54,7 +44,7 @@ fn is_complete(command: u8, values: &Values) -> bool
     true
 }
 
-// The TLVs after the header, from left to right, and last whether one is missing. No value is noted yet; the answer is the command.
+// The TLVs after the header, from left to right, and last whether one is missing. The answer is the command; a refusal leaves no value.
 #[tactic(auto, using(crate::proofs::Laws::Walk::turn))]
 fn walk(bytes: &[u8], command: u8, values: &mut Values) -> Result<u8, Refused>
     requires { (length bytes.now ≤ 65535) × (values.old ≡ none) }
@@ -74,14 +64,19 @@ fn walk(bytes: &[u8], command: u8, values: &mut Values) -> Result<u8, Refused>
                 at = at + 3 + len;
             }
             Err(refusal) => {
-                return Err(refuse(values, refusal, at));
+                *values = NONE;
+                return Err(Refused { refusal, place: at });
             }
         }
     }
     if is_complete(command, values) {
         return Ok(command);
     }
-    Err(refuse(values, Refusal::TlvUnexpected, bytes.len()))
+    *values = NONE;
+    Err(Refused {
+        refusal: Refusal::TlvUnexpected,
+        place: bytes.len(),
+    })
 }
 
 // The command of a message, which is all of the lent bytes. For an accepted message `values` are those of its record; a refused one leaves
