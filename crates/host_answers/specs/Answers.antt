@@ -1,12 +1,12 @@
 -- What the calls answer. Assumes nothing.
-use Rattle.std.specs.Prelude.{ℕ, false}
-use Rattle.wire.specs.declared.status.Status.{Status}
-use Rattle.wire.specs.declared.status.Status.TheVariants as status
-use Rattle.wire.specs.declared.written.Written.{Written as WriterAnswer}
-use Rattle.wire.specs.declared.written.Written.TheVariants as writer
-use Rattle.wire.specs.Status.{number_of}
-use Rattle.wire.specs.Numbered.{Numbered, accepted_as, refused_as, numbered}
+use Rattle.std.specs.Prelude.{ℕ, Bool, false, Result, Ok, Err}
+use Rattle.wire.specs.declared.status.Refusal.{Refusal}
+use Rattle.wire.specs.declared.status.Refusal.TheVariants as refusal
+use Rattle.wire.specs.declared.status.Refused.{Refused}
+use Rattle.wire.specs.Status.{refusal_number, refused_at}
+use Rattle.wire.specs.Numbered.{Numbered, accepted_as, refused_as}
 use Rattle.host_answers.specs.declared.Answer.{Answer}
+use Rattle.host_answers.specs.declared.Number.{Number}
 use Rattle.host_answers.specs.declared.Written.{Written}
 use Rattle.host_answers.specs.declared.Yes.{Yes}
 
@@ -17,24 +17,38 @@ answer_as n = record { status = n.number; place = n.place }
 abbrev pub accepted : Answer
 accepted = answer_as accepted_as
 
-abbrev pub refused : Status → ℕ → Answer
-refused s place = answer_as (refused_as s place)
+abbrev pub refused : Refusal → ℕ → Answer
+refused r place = answer_as (refused_as (refused_at r place))
 
 -- a lent record is shorter than its layout
 abbrev pub short : Answer
-short = refused status.NoRoom 0
+short = refused refusal.NoRoom 0
+
+-- of a reader
+abbrev pub answer_of : {A : Type 0} → Result A Refused → Answer
+answer_of (Ok x) = accepted
+answer_of (Err r) = refused (r.refusal) (r.place)
 
 -- of a writer: the paper's number of its answer, and how many bytes it wrote, none where it refused
-abbrev pub size_of : WriterAnswer → ℕ
-size_of (writer.Wrote n) = n
-size_of (writer.Refused s place) = 0
+abbrev pub not_written : Refusal → Written
+not_written r = record { status = refusal_number r; size = 0 }
 
-abbrev pub written_of : WriterAnswer → Written
-written_of a = record { status = (numbered a).number; size = size_of a }
+abbrev pub written_of : Result ℕ Refused → Written
+written_of (Ok n) = record { status = 0; size = n }
+written_of (Err r) = not_written (r.refusal)
 
-abbrev pub not_written : Status → Written
-not_written s = record { status = number_of s; size = 0 }
+-- of a number that is asked for: 0 where there is none
+abbrev pub no_number : Refusal → Number
+no_number r = record { status = refusal_number r; value = 0 }
 
--- of a question that is refused: no
-abbrev pub not_answered : Status → Yes
-not_answered s = record { status = number_of s; yes = false }
+abbrev pub value_of : Result ℕ Refused → Number
+value_of (Ok n) = record { status = 0; value = n }
+value_of (Err r) = no_number (r.refusal)
+
+-- of a question: no where it is refused
+abbrev pub not_answered : Refusal → Yes
+not_answered r = record { status = refusal_number r; yes = false }
+
+abbrev pub yes_of : Result Bool Refused → Yes
+yes_of (Ok b) = record { status = 0; yes = b }
+yes_of (Err r) = not_answered (r.refusal)

@@ -3,12 +3,12 @@
 
 ghost use Rattle.std.specs.Prelude.{◌≡◌, length, replicate};
 ghost use Rattle.wire.specs.Laid.{laid};
-ghost use Rattle.host_answers.specs.Answers.{accepted, refused, not_written, written_of, not_answered};
+ghost use Rattle.wire.specs.Numbered.{numbered};
+ghost use Rattle.host_answers.specs.Answers.{answer_of, written_of, value_of, yes_of};
 ghost use Rattle.host_answers.specs.Fresh.{fresh_answer};
 
 use scan::bytes;
-use wire::status::Status;
-use wire::{status, written};
+use wire::status::{Refusal, Refused};
 
 // Of a reader and of the calls for cursor packets: the place of a refusal.
 #[repr(C)]
@@ -51,51 +51,57 @@ pub struct Yes {
     pub yes: bool,
 }
 
-pub fn accept() -> Answer
-    ensures { result ≡ accepted }
-{
-    Answer {
-        status: status::number(Status::Accepted),
-        place: 0,
-    }
-}
-
-pub fn refuse(status: Status, place: usize) -> Answer
-    ensures { result ≡ refused status place }
-{
-    Answer {
-        status: status::number(status),
-        place,
-    }
-}
-
-// Of a writer that refuses.
-pub fn not_written(status: Status) -> Written
-    ensures { result ≡ not_written status }
-{
-    Written {
-        status: status::number(status),
-        size: 0,
-    }
-}
-
-// What a writer answers, by numbers.
-pub fn of_writer(answer: written::Written) -> Written
-    ensures { result ≡ written_of answer }
+// The paper's number of an answer: 0 where it accepts.
+fn status_of<T: Copy + Drop>(answer: Result<T, Refused>) -> u8
+    ensures { result ≡ (numbered answer).number }
 {
     match answer {
-        written::Written::Wrote(size) => Written { status: 0, size },
-        written::Written::Refused { status, place } => not_written(status),
+        Ok(_) => 0,
+        Err(refused) => refused.refusal.number(),
     }
 }
 
-// Of a question that is refused.
-pub fn not_answered(status: Status) -> Yes
-    ensures { result ≡ not_answered status }
-{
-    Yes {
-        status: status::number(status),
-        yes: false,
+impl From<Result<(), Refused>> for Answer {
+    ghost from_gives = { λ read answer. answer ≡ answer_of read };
+
+    fn from(read: Result<(), Refused>) -> Answer {
+        Answer {
+            status: status_of(read),
+            place: read.err().map_or(0, |refused| refused.place),
+        }
+    }
+}
+
+impl From<Result<usize, Refused>> for Written {
+    ghost from_gives = { λ written answer. answer ≡ written_of written };
+
+    fn from(written: Result<usize, Refused>) -> Written {
+        Written {
+            status: status_of(written),
+            size: written.unwrap_or(0),
+        }
+    }
+}
+
+impl From<Result<u16, Refused>> for Number {
+    ghost from_gives = { λ asked answer. answer ≡ value_of asked };
+
+    fn from(asked: Result<u16, Refused>) -> Number {
+        Number {
+            status: status_of(asked),
+            value: asked.unwrap_or(0),
+        }
+    }
+}
+
+impl From<Result<bool, Refused>> for Yes {
+    ghost from_gives = { λ asked answer. answer ≡ yes_of asked };
+
+    fn from(asked: Result<bool, Refused>) -> Yes {
+        Yes {
+            status: status_of(asked),
+            yes: asked.unwrap_or(false),
+        }
     }
 }
 
@@ -106,8 +112,8 @@ pub fn fresh(record: &mut [u8], needed: usize) -> u8
     ensures bytes { «record».new ≡ laid (replicate needed 0) «record».old }
 {
     if record.len() < needed {
-        return status::number(Status::NoRoom);
+        return Refusal::NoRoom.number();
     }
     bytes::fill(&mut record[..needed], 0);
-    status::number(Status::Accepted)
+    0
 }

@@ -7,6 +7,7 @@ use wire::number;
 use wire::status::{Refusal, Status};
 
 // The Size of the message that `bytes` begin with, which counts the header. Bytes after the header are not looked at.
+#[tactic(auto, unfolding(wire::specs::Checks::first_of, crate::specs::Reading::read_size))]
 pub fn read_size(bytes: &[u8]) -> Result<usize, Refusal>
     ensures { result ≡ read_size bytes.now }
 {

@@ -16,7 +16,7 @@ use wire::status::Refused;
 pub fn read(bytes: &[u8]) -> Result<Message, Refused>
     ensures { result ≡ read_message bytes.now }
 {
-    let mut values = [0u64; 8];
+    let mut values = walk::NONE;
     let command = walk::locate(bytes, &mut values)?;
     Ok(walk::message_from(command, &values))
 }

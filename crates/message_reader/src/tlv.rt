@@ -36,7 +36,7 @@ pub(crate) fn tlv_at(bytes: &[u8], at: usize, command: u8, values: &Values) -> R
     if !rules::length_ok(kind, len) {
         return Err(Refusal::TlvLength);
     }
-    if values[kind as usize] != 0 {
+    if values[kind as usize].present {
         return Err(Refusal::TlvRepeated);
     }
     Ok(Tlv { kind, len })

@@ -1,10 +1,9 @@
-// The walk over a message: each TLV is checked, and its value is noted by its type. A value's place and length are one number, which goes into
-// a record in one store.
+// The walk over a message: each TLV is checked, and its value is noted by its type.
 ghost use Rattle.std.specs.Prelude.{◌≡◌, ◌+◌, ◌*◌, ◌≤◌, ◌<◌, length};
 ghost use Rattle.wire.specs.Status.{refused_at};
 ghost use Rattle.message_rules.specs.Record.{empty_of};
 ghost use Rattle.message_reader.specs.Reading.{has_needed, is_complete, tlvs_from, read_message};
-ghost use Rattle.message_reader.specs.Values.{none, field_from, message_from, values_after, command_of};
+ghost use Rattle.message_reader.specs.Values.{none, message_from, values_after, command_of};
 
 use crate::tlv::Tlv;
 use crate::{header, tlv};
@@ -14,27 +13,32 @@ use message_rules::rules;
 use wire::number;
 use wire::status::{Refusal, Refused};
 
-// For each TLV type the number of its value, 0 where there is none.
-pub type Values = [u64; 8];
+// The value of each TLV type; type 1, which there is not, is absent.
+pub type Values = [Field; 8];
 
-// In a value's number the place has the low four bytes and the length the high ones: the length times this is added to the place.
-const HIGH: u64 = 4294967296;
+// No value of any type.
+pub const NONE: Values = [Field {
+    present: false,
+    at: 0,
+    len: 0,
+}; 8];
 
 // The refusal of a message, of which no value is left.
 fn refuse(values: &mut Values, refusal: Refusal, place: usize) -> Refused
     ensures answer { result ≡ refused_at refusal place }
     ensures values { values.new ≡ none }
 {
-    *values = [0u64; 8];
+    *values = NONE;
     Refused { refusal, place }
 }
 
 // Whether a type that the command needs is there.
+#[tactic(auto, using(crate::proofs::Laws::Values::needed_found))]
 fn has_needed(command: u8, kind: u8, values: &Values) -> bool
     requires { kind < 8 }
     ensures { result ≡ has_needed (message_from command values.now) kind }
 {
-    rules::role(command, kind) != Role::Needed || values[kind as usize] != 0
+    rules::role(command, kind) != Role::Needed || values[kind as usize].present
 }
 
 // Whether no TLV that the command needs is missing.
@@ -60,7 +64,11 @@ fn walk(bytes: &[u8], command: u8, values: &mut Values) -> Result<u8, Refused>
     while at < bytes.len() {
         match tlv::tlv_at(bytes, at, command, values) {
             Ok(Tlv { kind, len }) => {
-                values[kind as usize] = (at + 3) as u64 + HIGH * (len as u64);
+                values[kind as usize] = Field {
+                    present: true,
+                    at: (at + 3) as u32,
+                    len: len as u32,
+                };
                 at = at + 3 + len;
             }
             Err(refusal) => {
@@ -80,43 +88,25 @@ pub fn locate(bytes: &[u8], values: &mut Values) -> Result<u8, Refused>
     ensures answer { result ≡ command_of (read_message bytes.now) }
     ensures values { values.new ≡ values_after (read_message bytes.now) }
 {
-    *values = [0u64; 8];
+    *values = NONE;
     let command: u8 = number::read(bytes, 3);
     header::check(bytes, command)?;
     walk(bytes, command, values)
 }
 
-// The field of a value; no value begins at 0.
-#[tactic(auto, unfolding(crate::specs::Values::field_from))]
-fn field_from(value: u64) -> Field
-    ensures { result ≡ field_from value }
-{
-    Field {
-        present: value != 0,
-        at: (value % HIGH) as u32,
-        len: (value / HIGH) as u32,
-    }
-}
-
 // The record of a command with these values.
+#[tactic(auto, unfolding(crate::specs::Values::message_from))]
 pub fn message_from(command: u8, values: &Values) -> Message
     ensures { result ≡ message_from command values.now }
 {
-    let friendly_name = field_from(values[0]);
-    let rtsp_port = field_from(values[2]);
-    let source_id = field_from(values[3]);
-    let security_token = field_from(values[4]);
-    let security_options = field_from(values[5]);
-    let pin_challenge = field_from(values[6]);
-    let pin_reason = field_from(values[7]);
     Message {
         command,
-        friendly_name,
-        rtsp_port,
-        source_id,
-        security_token,
-        security_options,
-        pin_challenge,
-        pin_reason,
+        friendly_name: values[0],
+        rtsp_port: values[2],
+        source_id: values[3],
+        security_token: values[4],
+        security_options: values[5],
+        pin_challenge: values[6],
+        pin_reason: values[7],
     }
 }

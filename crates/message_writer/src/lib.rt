@@ -10,10 +10,8 @@ ghost use Rattle.message_writer.specs.Writing.{field_ok, writable, tlv_bytes, bo
 use message_rules::record::{Field, Message};
 use message_rules::role::Role;
 use message_rules::{record, rules};
-use scan::bytes;
-use wire::number::{put_u8, put_u16};
-use wire::status::Status;
-use wire::written::Written;
+use wire::number;
+use wire::status::{Refusal, Refused};
 
 // Whether the record's field of this type can be written from n lent bytes.
 fn field_ok(n: usize, message: Message, kind: u8) -> bool
@@ -76,9 +74,9 @@ fn put_tlv(bytes: &[u8], kind: u8, value: Field, out: &mut [u8], at: usize) -> u
     let to = from + len;
     let start = at + 3;
     let end = start + len;
-    put_u8(out, at, kind);
-    put_u16(out, at + 1, len as u16);
-    bytes::copy(&mut out[start..end], &bytes[from..to]);
+    number::write(out, at, kind);
+    number::write(out, at + 1, len as u16);
+    out[start..end].copy_from_slice(&bytes[from..to]);
     end
 }
 
@@ -101,29 +99,21 @@ fn put_head(size: usize, command: u8, out: &mut [u8])
     requires { (size ≤ 65535) × (4 ≤ length out.old) }
     ensures { out.new ≡ splice 0 (head_bytes size command) out.old }
 {
-    put_u16(out, 0, size as u16);
-    put_u8(out, 2, 1);
-    put_u8(out, 3, command);
+    number::write(out, 0, size as u16);
+    number::write(out, 2, 1u8);
+    number::write(out, 3, command);
 }
 
-// Writes the message of a record, whose values stand in the lent bytes. A refusal changes no output byte.
-pub fn write(bytes: &[u8], message: Message, out: &mut [u8]) -> Written
+// Writes the message of a record, whose values stand in the lent bytes, and answers its size. A refusal changes no output byte.
+pub fn write(bytes: &[u8], message: Message, out: &mut [u8]) -> Result<usize, Refused>
     ensures answer { result ≡ write_answer bytes.now message out.old }
     ensures bytes { out.new ≡ output bytes.now message out.old }
 {
-    let Some(size) = size_of(bytes.len(), message) else {
-        return Written::Refused {
-            status: Status::NotWritable,
-            place: 0,
-        };
-    };
+    let size = size_of(bytes.len(), message).ok_or(Refusal::NotWritable)?;
     if out.len() < size {
-        return Written::Refused {
-            status: Status::NoRoom,
-            place: 0,
-        };
+        return Err(Refusal::NoRoom.into());
     }
     put_head(size, message.command, out);
     put_tlvs(bytes, message, out);
-    Written::Wrote(size)
+    Ok(size)
 }

@@ -13,5 +13,5 @@ returns-then-record-lt-LENGTH c = let a = c.args in
 
 pub returns : goal.returns
 returns c = let a = c.args in
-    message_written_lem a.message a.«record».now _ _ _ _ _ _ _ _ c.if-record-lt-LENGTH.false c.put_u8.ensures.bytes c.write_field.ensures
+    message_written_lem a.message a.«record».now _ _ _ _ _ _ _ _ c.if-record-lt-LENGTH.false c.write.ensures.bytes c.write_field.ensures
     c.write_field-2.ensures c.write_field-3.ensures c.write_field-4.ensures c.write_field-5.ensures c.write_field-6.ensures c.write_field-7.ensures

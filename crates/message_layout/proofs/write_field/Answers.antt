@@ -9,5 +9,5 @@ use Rattle.message_layout.proofs.write_field.Goals as goal
 pub returns : goal.returns
 returns c = let a = c.args in
     field_written a.field a.at a.«record».now _ _ _ c.requires
-    (c.put_u8.ensures.bytes ∙ ap (λ (b : ℕ). written 1 b a.at a.«record».now) (flag_byte a.field.present)) c.put_u32.ensures.bytes
-    c.put_u32-2.ensures.bytes
+    (c.write.ensures.bytes ∙ ap (λ (b : ℕ). written 1 b a.at a.«record».now) (flag_byte a.field.present)) c.write-2.ensures.bytes
+    c.write-3.ensures.bytes

@@ -13,12 +13,10 @@ use lib.Dec.{ltb}
 use lib.ListN.{length, take, drop, get_or, length-drop}
 use lib.Seq.{get_or-append-add, drop-append-add, take_at, length-take-le}
 use Rattle.wire.specs.Number.{number_in, bytes_in}
-use Rattle.wire.specs.declared.status.Status.{Status}
+use Rattle.std.specs.Prelude.{Result, Ok, Err}
+use Rattle.wire.specs.declared.status.Refused.{Refused}
 use Rattle.message_rules.specs.declared.record.Field.{Field}
 use Rattle.message_rules.specs.declared.record.Message.{Message}
-use Rattle.message_reader.specs.declared.Answer.TheVariants as answer
-use Rattle.wire.specs.declared.written.Written.{Written}
-use Rattle.wire.specs.declared.written.Written.TheVariants as written
 use Rattle.message_rules.specs.Rules.{role_of, needed}
 use Rattle.message_rules.specs.Record.{absent, field_of, value_of, with_field, empty_of, size_to}
 use Rattle.message_reader.specs.Reading.{command_in, type_at, length_at, next_at, value_at, read_message}
@@ -217,7 +215,7 @@ module _ (s : List ℕ) (m : Message) (w : writable (length s) m ≡ true) where
       (either (field_of m t).present)
 
   -- reading the message of a record gives the record of what is written
-  pub read_message_lem : read_message (message_of s m) ≡ answer.Accepted (placed_to m 8)
+  pub read_message_lem : read_message (message_of s m) ≡ Ok (placed_to m 8)
   unfolding AcceptedExactly
   read_message_lem =
       (accepted_exactly x (placed_to m 8)).1
@@ -238,19 +236,19 @@ module _ (s : List ℕ) (m : Message) (w : writable (length s) m ≡ true) where
 -- ---- what the writer's answer says
 
 pub answer_wrote
-    : (s : List ℕ) (m : Message) (out : List ℕ) (n : ℕ) → write_answer s m out ≡ written.Wrote n
+    : (s : List ℕ) (m : Message) (out : List ℕ) (n : ℕ) → write_answer s m out ≡ Ok n
     → (writable (length s) m ≡ true) × (size_to m 8 ≡ n) × (size_to m 8 ≤ length out)
 unfolding write_answer
 answer_wrote s m out n =
-    let P : Written → Type 0 = λ a. a ≡ written.Wrote n → (writable (length s) m ≡ true) × (size_to m 8 ≡ n) × (size_to m 8 ≤ length out) in
+    let P : Result ℕ Refused → Type 0 = λ a. a ≡ Ok n → (writable (length s) m ≡ true) × (size_to m 8 ≡ n) × (size_to m 8 ≤ length out) in
     by_test P (not (writable (length s) m)) _ _ (λ e q. absurd (other q))
     (λ e. by_test P (ltb (length out) (size_to m 8)) _ _ (λ f q. absurd (other q))
     (λ f q. (not-false (writable (length s) m) e, same q, ltb-false (length out) (size_to m 8) f)))
   where
-    other : {st : Status} {place : ℕ} → written.Refused st place ≡ written.Wrote n → ⊥
+    other : {r : Refused} → ◌≡◌ {A = Result ℕ Refused} (Err r) (Ok n) → ⊥
     other q = let z : ◌≡◌ {A = ℕ} 0 1 = cc in omega arith
 
-    same : {k : ℕ} → written.Wrote k ≡ written.Wrote n → k ≡ n
+    same : {k : ℕ} → ◌≡◌ {A = Result ℕ Refused} (Ok k) (Ok n) → k ≡ n
     same q = cc
 
 -- the bytes that were written are the message

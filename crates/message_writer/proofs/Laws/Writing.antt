@@ -10,17 +10,17 @@ use borrow.Author.Tests.{leb-true, lt-ltb, le-ltb, not-true}
 use lib.Dec.{leb}
 use lib.ListN.{length, drop, length-append, length-drop}
 use lib.Seq.{length-take-le}
-use Rattle.std.specs.Prelude.{Some, None}
+use Rattle.std.specs.Prelude.{Some, None, Ok, Err}
 use Rattle.std.proofs.lemmas.Option.{none-some}
 use Rattle.wire.specs.Number.{bytes_in, bytes}
 use Rattle.wire.specs.Splice.{splice}
-use Rattle.wire.specs.declared.status.Status.TheVariants as status
+use Rattle.wire.specs.Status.{refused_at}
+use Rattle.wire.specs.declared.status.Refusal.TheVariants as refusal
 use Rattle.wire.proofs.Laws.Number.{length_bytes}
 use Rattle.wire.proofs.Laws.Splice.{length_splice}
 use Rattle.wire.proofs.Laws.Written.{Written, next_part}
 use Rattle.message_rules.specs.declared.record.Field.{Field}
 use Rattle.message_rules.specs.declared.record.Message.{Message}
-use Rattle.wire.specs.declared.written.Written.TheVariants as answer
 use Rattle.message_rules.specs.Rules.{role_of, foreign, needed, same_role, length_ok, known_command}
 use Rattle.wire.specs.Below.{all_below}
 use Rattle.message_rules.specs.Record.{field_of, value_of, tlv_size, size_to}
@@ -163,17 +163,17 @@ module _ (s : List ℕ) (m : Message) (w : writable (length s) m ≡ true) where
 -- ---- the writer's answers
 
 module _ (s : List ℕ) (m : Message) (out : List ℕ) where
-  pub not_writable : writable (length s) m ≡ false → (answer.Refused status.NotWritable 0 ≡ write_answer s m out) × (out ≡ output s m out)
+  pub not_writable : writable (length s) m ≡ false → (Err (refused_at refusal.NotWritable 0) ≡ write_answer s m out) × (out ≡ output s m out)
   unfolding write_answer output
   not_writable e = (simp e, simp e)
 
   module _ (w : writable (length s) m ≡ true) where
-    pub no_room : length out < size_to m 8 → (answer.Refused status.NoRoom 0 ≡ write_answer s m out) × (out ≡ output s m out)
+    pub no_room : length out < size_to m 8 → (Err (refused_at refusal.NoRoom 0) ≡ write_answer s m out) × (out ≡ output s m out)
     unfolding write_answer output
     no_room h = (simp (w, lt-ltb (length out) (size_to m 8) h), simp (w, lt-ltb (length out) (size_to m 8) h))
 
     pub wrote
-        : size_to m 8 ≤ length out → (answer.Wrote (size_to m 8) ≡ write_answer s m out)
+        : size_to m 8 ≤ length out → (Ok (size_to m 8) ≡ write_answer s m out)
         × (message_of s m ++ drop (size_to m 8) out ≡ output s m out)
     unfolding write_answer output
     wrote h = (simp (w, le-ltb (length out) (size_to m 8) h), simp (w, le-ltb (length out) (size_to m 8) h))

@@ -10,9 +10,9 @@ use lib.Dec.{leb}
 use lib.ListN.{length, drop, length-append, length-drop}
 use lib.Seq.{drop_at}
 use Rattle.message_rules.specs.declared.record.Message.{Message}
-use Rattle.wire.specs.declared.written.Written.{Written}
-use Rattle.wire.specs.declared.written.Written.TheVariants as written
+use Rattle.std.specs.Prelude.{Result, Ok, Err}
 use Rattle.wire.specs.Numbered.{numbered}
+use Rattle.wire.specs.declared.status.Refused.{Refused}
 use Rattle.message_rules.specs.Rules.{role_of, foreign, needed, same_role, length_ok, known_command}
 use Rattle.wire.specs.Below.{all_below}
 use Rattle.message_rules.specs.Record.{field_of, size_to}
@@ -85,9 +85,9 @@ written_exactly s m out =
       one_of = ⊎_elim (λ w. inr (no_reason s m w)) (λ e. inl (reason (length s) m e)) (either (writable (length s) m));
     }
 
-refused_kept : (a : Written) (message out : List ℕ) → ((numbered a).number ≡ 0 → ⊥) → output_after a message out ≡ out
-refused_kept (written.Wrote n) message out f = absurd (f refl)
-refused_kept (written.Refused st place) message out f = refl
+refused_kept : (a : Result ℕ Refused) (message out : List ℕ) → ((numbered a).number ≡ 0 → ⊥) → output_after a message out ≡ out
+refused_kept (Ok n) message out f = absurd (f refl)
+refused_kept (Err r) message out f = refl
 
 pub rest_kept : RestKept
 unfolding RestKept output
@@ -96,6 +96,6 @@ rest_kept s m out = (
   λ n e.
       let a = answer_wrote s m out n e in
       let l = message_length s m a.0 in
-      let o : output s m out ≡ message_of s m ++ drop n out = ap (λ (x : Written). output_after x (message_of s m) out) e in
+      let o : output s m out ≡ message_of s m ++ drop n out = ap (λ (x : Result ℕ Refused). output_after x (message_of s m) out) e in
       (ap length o ∙ (simp (length-append, length-drop) (omega (arith, l, a.1, a.2))), ap (drop n) o ∙ drop_at (message_of s m) (drop n out) n (l ∙ a.1)),
 )

@@ -12,7 +12,7 @@ use Rattle.message_reader.specs.Reading.{type_at}
 use Rattle.message_reader.specs.Theorems as given
 use Rattle.message_reader.specs.Values.{message_from}
 use Rattle.message_reader.proofs.Laws.Reading.{tlv_of, tlv_taken, tlv_refused}
-use Rattle.message_reader.proofs.Laws.Values.{found_there, found_absent}
+use Rattle.message_reader.proofs.Laws.Values.{found_present}
 use Rattle.message_reader.proofs.tlv.tlv_at.Goals as goal
 
 -- the type is one of the command's
@@ -35,14 +35,14 @@ returns-then-not-length_ok c = let u = c.read-len in
     sym (tlv_refused _ _ _ _ (given.length_wrong (omega (arith, u.ensures)) (own _ _ _ c.role.ensures (sym c.if-eq.ensures))
     (ap (length_ok _) (sym u.ensures) ∙ sym c.length_ok.ensures ∙ c.if-not-length_ok.true)))
 
-pub returns-then-values-kind-ne0 : goal.returns-then-values-kind-ne0
+pub returns-then-values-kind : goal.returns-then-values-kind
 unfolding message_from
-returns-then-values-kind-ne0 c = let a = c.args in
+returns-then-values-kind c = let a = c.args in
     let u = c.read-len in
     let o = own a.command (type_at a.bytes.now a.at) _ c.role.ensures (sym c.if-eq.ensures) in
     sym (tlv_refused _ _ _ _ (given.repeated (omega (arith, u.ensures)) o
     (ap (length_ok _) (sym u.ensures) ∙ sym c.length_ok.ensures ∙ c.if-not-length_ok.false)
-    (found_there _ a.values.now _ (type_small _ _ o) (type_not_1 _ _ o) c.if-values-kind-ne0.true)))
+    (found_present _ a.values.now _ (type_small _ _ o) (type_not_1 _ _ o) ∙ c.if-values-kind.true)))
 
 pub returns : goal.returns
 unfolding message_from
@@ -54,7 +54,7 @@ returns c = let u = c.read-len in
       whole = omega (arith, u.ensures);
       expected = o;
       fitting = ap (length_ok _) (sym u.ensures) ∙ sym c.length_ok.ensures ∙ c.if-not-length_ok.false;
-      first = found_absent _ a.values.now _ (type_small _ _ o) (type_not_1 _ _ o) c.if-values-kind-ne0.false;
+      first = found_present _ a.values.now _ (type_small _ _ o) (type_not_1 _ _ o) ∙ c.if-values-kind.false;
     }))
 
 pub bounds-values-kind : goal.bounds-values-kind

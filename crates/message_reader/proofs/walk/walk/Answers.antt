@@ -29,29 +29,11 @@ returns c = let w = walked_missing c.loop-at.invariant c.loop-at-test.false (sym
     let r = c.refuse-2.ensures in
     record { answer = ap Err r.answer ∙ ap command_of w; values = r.values ∙ ap values_after w }
 
-pub overflow_add-values : goal.overflow_add-values
-overflow_add-values c = omega (arith, (walked_fits c.loop-at.invariant c.loop-at-test.true _ _ (sym c.tlv_at.ensures ∙ c.in-Ok.is)).whole)
-
-pub overflow_mul-values : goal.overflow_mul-values
-overflow_mul-values c = omega (arith, (walked_fits c.loop-at.invariant c.loop-at-test.true _ _ (sym c.tlv_at.ensures ∙ c.in-Ok.is)).whole, c.loop-at.invariant.short)
-
-pub overflow_add-values-in-Ok : goal.overflow_add-values-in-Ok
-overflow_add-values-in-Ok c = omega (arith, (walked_fits c.loop-at.invariant c.loop-at-test.true _ _ (sym c.tlv_at.ensures ∙ c.in-Ok.is)).whole, c.loop-at.invariant.short)
-
-pub overflow_cast-values : goal.overflow_cast-values
-overflow_cast-values c = omega (arith, (walked_fits c.loop-at.invariant c.loop-at-test.true _ _ (sym c.tlv_at.ensures ∙ c.in-Ok.is)).small)
-
-pub offset_bounds-values-kind : goal.offset_bounds-values-kind
-offset_bounds-values-kind c = omega (arith, (walked_fits c.loop-at.invariant c.loop-at-test.true _ _ (sym c.tlv_at.ensures ∙ c.in-Ok.is)).small)
+pub overflow_cast-values-in-Ok : goal.overflow_cast-values-in-Ok
+overflow_cast-values-in-Ok c = omega (arith, (walked_fits c.loop-at.invariant c.loop-at-test.true _ _ (sym c.tlv_at.ensures ∙ c.in-Ok.is)).whole, c.loop-at.invariant.short)
 
 pub bounds-values-kind : goal.bounds-values-kind
 bounds-values-kind c = omega (arith, (walked_fits c.loop-at.invariant c.loop-at-test.true _ _ (sym c.tlv_at.ensures ∙ c.in-Ok.is)).small, c.loop-at.invariant.eight.eight)
 
-pub overflow_add-at : goal.overflow_add-at
-overflow_add-at c = omega (arith, (walked_fits c.loop-at.invariant c.loop-at-test.true _ _ (sym c.tlv_at.ensures ∙ c.in-Ok.is)).whole)
-
 pub overflow_add-at-in-Ok : goal.overflow_add-at-in-Ok
 overflow_add-at-in-Ok c = omega (arith, (walked_fits c.loop-at.invariant c.loop-at-test.true _ _ (sym c.tlv_at.ensures ∙ c.in-Ok.is)).whole)
-
-pub loop-at-smaller : goal.loop-at-smaller
-loop-at-smaller c = omega (arith, (walked_fits c.loop-at.invariant c.loop-at-test.true _ _ (sym c.tlv_at.ensures ∙ c.in-Ok.is)).whole)
