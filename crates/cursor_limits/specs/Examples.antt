@@ -1,25 +1,22 @@
 -- The papers' examples, and others, read and written. Assumes nothing.
-use Rattle.std.specs.Prelude.{ℕ, ◌+◌, ◌*◌, ◌≤◌, ◌<◌, ◌≡◌, refl, List, [], ◌∷◌, ◌⊎◌, length, take, replicate}
+use Rattle.std.specs.Prelude.{ℕ, ◌+◌, ◌*◌, ◌≤◌, ◌<◌, ◌≡◌, refl, List, [], ◌∷◌, ◌⊎◌, length, take, replicate, Ok}
 use Rattle.std.proofs.Common.{inl, inr, ⊎_elim, arith, length-append}
 use Rattle.cursor_limits.specs.declared.value.Xor.{Xor}
 use Rattle.cursor_limits.specs.declared.value.Xor.TheVariants as xor
 use Rattle.cursor_limits.specs.declared.value.Limits.{Limits}
 use Rattle.cursor_limits.specs.declared.value.Value.{Value}
 use Rattle.cursor_limits.specs.declared.value.Value.TheVariants as value
-use Rattle.cursor_limits.specs.declared.value.Answer.TheVariants as answer
 use Rattle.wire.specs.Below.{all_below}
 use Rattle.wire.specs.Laid.{laid}
 use Rattle.wire.specs.Splice.{splice}
-use Rattle.wire.specs.declared.written.Written.TheVariants as written
-use Rattle.wire.specs.Numbered.{accepted_as}
-use Rattle.wire.specs.Numbered as writer
+use Rattle.wire.specs.Numbered.{accepted_as, numbered}
 use Rattle.text.specs.Abnf.{small, capital, Quoted, no_letter, letter, decimal, upper, HexDig, HexDigs, no_digit, digit}
 use Rattle.text.specs.Range.{within}
 use Rattle.text.specs.Hex.{digit_value, is_digit, number, read_digits, digit_of, spell_digits}
 use Rattle.text.specs.Word.{lowered, same_letter, spells, raised}
 use Rattle.text.proofs.Laws.Abnf.{quoted_length, hexdigs_length}
 use Rattle.cursor_limits.specs.Grammar.{full_word, XorSupport, xor_none, xor_full, caps, Means, not_supported, supported}
-use Rattle.cursor_limits.specs.Reading.{numbered, not_grammar, read_field, read_limits, read_value}
+use Rattle.cursor_limits.specs.Reading.{not_grammar, read_field, read_limits, meaning, read_value}
 use Rattle.cursor_limits.specs.Writing.{spell_field, spell_limits, spelling, write_answer}
 use Rattle.cursor_limits.specs.Theorems.{Sized, limits_sized, canonical}
 
@@ -32,8 +29,8 @@ abbrev pub line : List ℕ
 line =
     0x66 ∷ 0x75 ∷ 0x6C ∷ 0x6C ∷ 0x20 ∷ 0x30 ∷ 0x31 ∷ 0x30 ∷ 0x30 ∷ 0x20 ∷ 0x30 ∷ 0x30 ∷ 0x38 ∷ 0x30 ∷ 0x20 ∷ 0x43 ∷ 0x33 ∷ 0x35 ∷ 0x31 ∷ []
 
-pub capitals : read_value line ≡ answer.Accepted (value.Supported (limits xor.Full))
-unfolding within all_below digit_value is_digit number read_digits lowered same_letter spells read_field read_limits read_value
+pub capitals : read_value line ≡ Ok (value.Supported (limits xor.Full))
+unfolding within all_below digit_value is_digit number read_digits lowered same_letter spells read_field read_limits meaning read_value
 capitals = refl
 
 pub capitals_written : spelling (value.Supported (limits xor.Full)) ≡ line
@@ -45,23 +42,23 @@ abbrev mixed : List ℕ
 mixed =
     0x4E ∷ 0x4F ∷ 0x4E ∷ 0x45 ∷ 0x20 ∷ 0x30 ∷ 0x31 ∷ 0x30 ∷ 0x30 ∷ 0x20 ∷ 0x30 ∷ 0x30 ∷ 0x38 ∷ 0x30 ∷ 0x20 ∷ 0x63 ∷ 0x33 ∷ 0x35 ∷ 0x31 ∷ []
 
-pub other_case : read_value mixed ≡ answer.Accepted (value.Supported (limits xor.None))
-unfolding within all_below digit_value is_digit number read_digits lowered same_letter spells read_field read_limits read_value
+pub other_case : read_value mixed ≡ Ok (value.Supported (limits xor.None))
+unfolding within all_below digit_value is_digit number read_digits lowered same_letter spells read_field read_limits meaning read_value
 other_case = refl
 
 -- 003 section 4: `none`
-pub none : read_value (0x6E ∷ 0x6F ∷ 0x6E ∷ 0x65 ∷ []) ≡ answer.Accepted value.NotSupported
-unfolding within all_below lowered same_letter spells read_value
+pub none : read_value (0x6E ∷ 0x6F ∷ 0x6E ∷ 0x65 ∷ []) ≡ Ok value.NotSupported
+unfolding within all_below lowered same_letter spells meaning read_value
 none = refl
 
 -- `NONE`
-pub none_in_capitals : read_value (0x4E ∷ 0x4F ∷ 0x4E ∷ 0x45 ∷ []) ≡ answer.Accepted value.NotSupported
-unfolding within all_below lowered same_letter spells read_value
+pub none_in_capitals : read_value (0x4E ∷ 0x4F ∷ 0x4E ∷ 0x45 ∷ []) ≡ Ok value.NotSupported
+unfolding within all_below lowered same_letter spells meaning read_value
 none_in_capitals = refl
 
 -- no bytes
 pub empty : read_value [] ≡ not_grammar
-unfolding within all_below lowered same_letter spells read_value
+unfolding within all_below lowered same_letter spells meaning read_value
 empty = refl
 
 -- 003 section 4: `full 0x0200 0x0200 50001`, whose numbers aren't four hexadecimal digits
@@ -70,7 +67,7 @@ pub section_4
     (0x66 ∷ 0x75 ∷ 0x6C ∷ 0x6C ∷ 0x20 ∷ 0x30 ∷ 0x78 ∷ 0x30 ∷ 0x32 ∷ 0x30 ∷ 0x30 ∷ 0x20 ∷ 0x30 ∷ 0x78 ∷ 0x30 ∷ 0x32 ∷ 0x30 ∷ 0x30 ∷ 0x20
     ∷ 0x35 ∷ 0x30 ∷ 0x30 ∷ 0x30 ∷ 0x31 ∷ [])
     ≡ not_grammar
-unfolding within all_below lowered same_letter spells read_value
+unfolding within all_below lowered same_letter spells meaning read_value
 section_4 = refl
 
 -- `full 0200 0200 0G51`: G is no digit
@@ -78,7 +75,7 @@ pub not_a_digit
     : read_value
     (0x66 ∷ 0x75 ∷ 0x6C ∷ 0x6C ∷ 0x20 ∷ 0x30 ∷ 0x32 ∷ 0x30 ∷ 0x30 ∷ 0x20 ∷ 0x30 ∷ 0x32 ∷ 0x30 ∷ 0x30 ∷ 0x20 ∷ 0x30 ∷ 0x47 ∷ 0x35 ∷ 0x31 ∷ [])
     ≡ not_grammar
-unfolding within all_below digit_value is_digit number read_digits lowered same_letter spells read_field read_limits read_value
+unfolding within all_below digit_value is_digit number read_digits lowered same_letter spells read_field read_limits meaning read_value
 not_a_digit = refl
 
 -- The premises of the theorems are met.
@@ -113,9 +110,9 @@ line_means =
 -- AcceptsGrammar: both are read as what they mean
 -- OneMeaning: and mean nothing else
 pub accepts
-    : (Means word value.NotSupported × (read_value word ≡ answer.Accepted value.NotSupported))
-    × (Means line (value.Supported (limits xor.Full)) × (read_value line ≡ answer.Accepted (value.Supported (limits xor.Full))))
-unfolding within all_below digit_value is_digit number read_digits lowered same_letter spells read_field read_limits read_value
+    : (Means word value.NotSupported × (read_value word ≡ Ok value.NotSupported))
+    × (Means line (value.Supported (limits xor.Full)) × (read_value line ≡ Ok (value.Supported (limits xor.Full))))
+unfolding within all_below digit_value is_digit number read_digits lowered same_letter spells read_field read_limits meaning read_value
 accepts = ((none_means, refl), (line_means, capitals))
 
 -- RefusesTheRest: `none` and a space means nothing, since what means something has 4 bytes or 19
@@ -132,28 +129,28 @@ abbrev spaced : List ℕ
 spaced = 0x6E ∷ 0x6F ∷ 0x6E ∷ 0x65 ∷ 0x20 ∷ []
 
 pub refused : ((v : Value) → Means spaced v → ⊥) × (numbered (read_value spaced) ≡ record { number = 16; place = 0 })
-unfolding within all_below lowered same_letter spells read_value
+unfolding within all_below lowered same_letter spells meaning read_value
 refused = (λ v m. ⊎_elim (λ e. omega arith) (λ e. omega arith) (sizes m), refl)
 
 -- TenIfShort: `none` has no room in three bytes, and has it in four
 pub short
-    : ((3 < length (spelling value.NotSupported)) × (writer.numbered (write_answer value.NotSupported 3) ≡ record { number = 10; place = 0 }))
-    × ((length (spelling value.NotSupported) ≤ 4) × (writer.numbered (write_answer value.NotSupported 4) ≡ accepted_as))
+    : ((3 < length (spelling value.NotSupported)) × (numbered (write_answer value.NotSupported 3) ≡ record { number = 10; place = 0 }))
+    × ((length (spelling value.NotSupported) ≤ 4) × (numbered (write_answer value.NotSupported 4) ≡ accepted_as))
 unfolding write_answer
 short = ((omega arith, refl), (omega arith, refl))
 
 -- ReadsBack: the limits, written into twenty bytes
 pub reads_back
-    : Sized (value.Supported (limits xor.Full)) × (write_answer (value.Supported (limits xor.Full)) 20 ≡ written.Wrote 19)
-    × (read_value (take 19 (laid (spelling (value.Supported (limits xor.Full))) (replicate 20 5))) ≡ answer.Accepted (value.Supported (limits xor.Full)))
+    : Sized (value.Supported (limits xor.Full)) × (write_answer (value.Supported (limits xor.Full)) 20 ≡ Ok 19)
+    × (read_value (take 19 (laid (spelling (value.Supported (limits xor.Full))) (replicate 20 5))) ≡ Ok (value.Supported (limits xor.Full)))
 unfolding digit_of spell_digits spell_field spell_limits write_answer splice laid
-    within all_below digit_value is_digit number read_digits lowered same_letter spells read_field read_limits read_value
+    within all_below digit_value is_digit number read_digits lowered same_letter spells read_field read_limits meaning read_value
 reads_back = (limits_sized {l = limits xor.Full} (omega arith) (omega arith) (omega arith), refl, refl)
 
 -- Canonical: `NONE 0100 0080 c351` is written as `none 0100 0080 C351`
 pub canonical_spelling
-    : (read_value mixed ≡ answer.Accepted (value.Supported (limits xor.None)))
+    : (read_value mixed ≡ Ok (value.Supported (limits xor.None)))
     × (spelling (value.Supported (limits xor.None)) ≡ canonical mixed)
 unfolding digit_of spell_digits spell_field spell_limits raised canonical
-    within all_below digit_value is_digit number read_digits lowered same_letter spells read_field read_limits read_value
+    within all_below digit_value is_digit number read_digits lowered same_letter spells read_field read_limits meaning read_value
 canonical_spelling = (refl, refl)

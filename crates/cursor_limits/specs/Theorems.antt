@@ -1,30 +1,28 @@
 -- What holds of the cursor limits value: the definitions that the contracts cite, `read_value` and `spelling`, are the grammar's. The proofs
 -- stand in proofs/Laws/Theorems.antt. Assumes nothing.
-use Rattle.std.specs.Prelude.{ℕ, ◌≤◌, ◌<◌, ◌≡◌, List, ◌++◌, map, length, take, drop}
+use Rattle.std.specs.Prelude.{ℕ, ◌≤◌, ◌<◌, ◌≡◌, List, ◌++◌, map, length, take, drop, Ok}
 use Rattle.cursor_limits.specs.declared.value.Limits.{Limits}
 use Rattle.cursor_limits.specs.declared.value.Value.{Value}
 use Rattle.cursor_limits.specs.declared.value.Value.TheVariants as value
-use Rattle.cursor_limits.specs.declared.value.Answer.TheVariants as answer
-use Rattle.wire.specs.declared.status.Status.TheVariants as status
-use Rattle.wire.specs.declared.written.Written.TheVariants as written
-use Rattle.wire.specs.Numbered.{accepted_as, refused_as}
-use Rattle.wire.specs.Numbered as writer
+use Rattle.wire.specs.declared.status.Refusal.TheVariants as refusal
+use Rattle.wire.specs.Numbered.{accepted_as, refused_as, numbered}
+use Rattle.wire.specs.Status.{refused_at}
 use Rattle.cursor_limits.specs.Grammar.{Means}
 use Rattle.wire.specs.Laid.{laid}
 use Rattle.text.specs.Word.{lowered, raised}
-use Rattle.cursor_limits.specs.Reading.{numbered, read_value}
+use Rattle.cursor_limits.specs.Reading.{read_value}
 use Rattle.cursor_limits.specs.Writing.{spelling, write_answer}
 
 -- The reader accepts exactly the strings of the grammar, each with its meaning.
 unfoldable pub AcceptsGrammar : Type 0
 AcceptsGrammar =
-    (s : List ℕ) (v : Value) → (Means s v → read_value s ≡ answer.Accepted v) × (read_value s ≡ answer.Accepted v → Means s v)
+    (s : List ℕ) (v : Value) → (Means s v → read_value s ≡ Ok v) × (read_value s ≡ Ok v → Means s v)
 
 -- Every other string is 16 at place 0, and no string of the grammar is.
 unfoldable pub RefusesTheRest : Type 0
 RefusesTheRest =
     (s : List ℕ)
-    → (((v : Value) → Means s v → ⊥) → numbered (read_value s) ≡ refused_as status.NotGrammar 0)
+    → (((v : Value) → Means s v → ⊥) → numbered (read_value s) ≡ refused_as (refused_at refusal.NotGrammar 0))
     × ((numbered (read_value s)).number ≡ 16 → (v : Value) → Means s v → ⊥)
 
 -- A string of the grammar has one meaning.
@@ -40,14 +38,14 @@ pub data Sized : Value → Type 0 where
 unfoldable pub TenIfShort : Type 0
 TenIfShort =
     (v : Value) (room : ℕ)
-    → (room < length (spelling v) → writer.numbered (write_answer v room) ≡ refused_as status.NoRoom 0)
-    × (length (spelling v) ≤ room → writer.numbered (write_answer v room) ≡ accepted_as)
+    → (room < length (spelling v) → numbered (write_answer v room) ≡ refused_as (refused_at refusal.NoRoom 0))
+    × (length (spelling v) ≤ room → numbered (write_answer v room) ≡ accepted_as)
 
 -- What is written for a record reads back as the same record.
 unfoldable pub ReadsBack : Type 0
 ReadsBack =
-    (v : Value) (out : List ℕ) (n : ℕ) → Sized v → write_answer v (length out) ≡ written.Wrote n
-    → read_value (take n (laid (spelling v) out)) ≡ answer.Accepted v
+    (v : Value) (out : List ℕ) (n : ℕ) → Sized v → write_answer v (length out) ≡ Ok n
+    → read_value (take n (laid (spelling v) out)) ≡ Ok v
 
 -- s with its word in small letters and its digits in capitals
 unfoldable pub canonical : List ℕ → List ℕ
@@ -56,4 +54,4 @@ canonical s = map lowered (take 4 s) ++ map raised (drop 4 s)
 -- Reading a string and writing what it means gives the string's canonical spelling, which means the same.
 unfoldable pub Canonical : Type 0
 Canonical =
-    (s : List ℕ) (v : Value) → read_value s ≡ answer.Accepted v → Sized v × (spelling v ≡ canonical s) × Means (spelling v) v
+    (s : List ℕ) (v : Value) → read_value s ≡ Ok v → Sized v × (spelling v ≡ canonical s) × Means (spelling v) v

@@ -1,14 +1,14 @@
 -- What writing a cursor limits value gives (01, "Cursor limits value": "words in small letters, hex digits in capitals"). Every record has a
 -- spelling, so 18 is never given. The output afterwards is `laid (spelling v) out`. Assumes nothing.
-use Rattle.std.specs.Prelude.{ℕ, List, ◌∷◌, ◌++◌, cond, leb, length}
-use Rattle.wire.specs.declared.status.Status.TheVariants as status
+use Rattle.std.specs.Prelude.{ℕ, List, ◌∷◌, ◌++◌, cond, leb, length, Result, Ok, Err}
+use Rattle.wire.specs.declared.status.Refusal.TheVariants as refusal
+use Rattle.wire.specs.declared.status.Refused.{Refused}
+use Rattle.wire.specs.Status.{refused_at}
 use Rattle.cursor_limits.specs.declared.value.Xor.{Xor}
 use Rattle.cursor_limits.specs.declared.value.Xor.TheVariants as xor
 use Rattle.cursor_limits.specs.declared.value.Limits.{Limits}
 use Rattle.cursor_limits.specs.declared.value.Value.{Value}
 use Rattle.cursor_limits.specs.declared.value.Value.TheVariants as value
-use Rattle.wire.specs.declared.written.Written.{Written}
-use Rattle.wire.specs.declared.written.Written.TheVariants as answer
 use Rattle.text.specs.Abnf.{space}
 use Rattle.cursor_limits.specs.Grammar.{none_word, full_word}
 use Rattle.text.specs.Hex.{spell_digits}
@@ -31,5 +31,5 @@ spelling value.NotSupported = none_word
 spelling (value.Supported l) = spell_limits l
 
 -- the number of its bytes, or 10 where the output has fewer
-unfoldable pub write_answer : Value → ℕ → Written
-write_answer v room = cond (leb (length (spelling v)) room) (answer.Wrote (length (spelling v))) (answer.Refused status.NoRoom 0)
+unfoldable pub write_answer : Value → ℕ → Result ℕ Refused
+write_answer v room = cond (leb (length (spelling v)) room) (Ok (length (spelling v))) (Err (refused_at refusal.NoRoom 0))

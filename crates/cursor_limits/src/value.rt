@@ -1,5 +1,4 @@
 // What a cursor limits value says (003 section 1.7).
-use wire::status::Status;
 
 // xor-support: whether the sink can do the XOR operation of monochrome and color mask cursors.
 #[derive(Clone, Copy, PartialEq, Eq)]
@@ -22,11 +21,4 @@ pub struct Limits {
 pub enum Value {
     NotSupported,
     Supported(Limits),
-}
-
-// What reading gives. The place of a refusal is always 0.
-#[derive(Clone, Copy)]
-pub enum Answer {
-    Accepted(Value),
-    Refused { status: Status, place: usize },
 }

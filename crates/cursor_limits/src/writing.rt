@@ -6,8 +6,7 @@ ghost use Rattle.cursor_limits.specs.Writing.{spell_xor, spell_field, spell_limi
 
 use crate::value::{Limits, Value, Xor};
 use text::{hex, word};
-use wire::status::Status;
-use wire::written::Written;
+use wire::status::{Refusal, Refused};
 
 // The word for the xor support.
 fn word_of(xor: Xor) -> [u8; 4]
@@ -48,30 +47,24 @@ fn write_limits(out: &mut [u8], limits: Limits)
 
 // Writes a value into the first bytes of `out` and answers their number; where `out` is too short, nothing changes.
 #[tactic(auto, unfolding(crate::specs::Writing::write_answer), using(crate::proofs::Laws::Writing::length_limits, wire::proofs::Laws::Laid::laid_short))]
-pub fn write(value: Value, out: &mut [u8]) -> Written
+pub fn write(value: Value, out: &mut [u8]) -> Result<usize, Refused>
     ensures answer { result ≡ write_answer value (length out.old) }
     ensures bytes { out.new ≡ laid (spelling value) out.old }
 {
     match value {
         Value::NotSupported => {
             if out.len() < 4 {
-                return Written::Refused {
-                    status: Status::NoRoom,
-                    place: 0,
-                };
+                return Err(Refusal::NoRoom.into());
             }
             word::copy(out, b"none");
-            Written::Wrote(4)
+            Ok(4)
         }
         Value::Supported(limits) => {
             if out.len() < 19 {
-                return Written::Refused {
-                    status: Status::NoRoom,
-                    place: 0,
-                };
+                return Err(Refusal::NoRoom.into());
             }
             write_limits(out, limits);
-            Written::Wrote(19)
+            Ok(19)
         }
     }
 }

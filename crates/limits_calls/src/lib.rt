@@ -2,38 +2,50 @@
 #![tactic(auto)]
 
 ghost use Rattle.std.specs.Prelude.{◌≡◌};
+ghost use Rattle.host_answers.specs.Answers.{answer_of, written_of};
 ghost use Rattle.limits_calls.specs.LimitsCalls.{read_answer, read_record, limits_written, limits_output};
 
-use cursor_limits::value;
-use host_answers::{Answer, Written, accept, not_written, of_writer, refuse};
-use wire::status::Status;
+use host_answers::{Answer, Written};
+use wire::status::{Refusal, Refused};
+
+// The reading, where the record is long enough.
+#[tactic(auto, unfolding(crate::specs::LimitsCalls::read_answer, crate::specs::LimitsCalls::read_record), using(limits_layout::proofs::Laws::LimitsLayout::limits_short))]
+fn read_into(text: &[u8], record: &mut [u8]) -> Result<(), Refused>
+    ensures answer { answer_of result ≡ read_answer text.now «record».old }
+    ensures after { «record».new ≡ read_record text.now «record».old }
+{
+    if record.len() < limits_layout::LENGTH {
+        return Err(Refusal::NoRoom.into());
+    }
+    let value = cursor_limits::read(text)?;
+    limits_layout::write(record, value);
+    Ok(())
+}
 
 // Reads a value, which is all of the lent text, into the record.
-#[tactic(auto, unfolding(crate::specs::LimitsCalls::read_answer, crate::specs::LimitsCalls::read_record), using(limits_layout::proofs::Laws::LimitsLayout::limits_short))]
 pub fn read(text: &[u8], record: &mut [u8]) -> Answer
     ensures answer { result ≡ read_answer text.now «record».old }
     ensures after { «record».new ≡ read_record text.now «record».old }
 {
+    read_into(text, record).into()
+}
+
+// The writing, where the record is long enough.
+#[tactic(auto, unfolding(crate::specs::LimitsCalls::limits_written, crate::specs::LimitsCalls::limits_output))]
+fn write_from(record: &[u8], out: &mut [u8]) -> Result<usize, Refused>
+    ensures answer { written_of result ≡ limits_written «record».now out.old }
+    ensures after { out.new ≡ limits_output «record».now out.old }
+{
     if record.len() < limits_layout::LENGTH {
-        return refuse(Status::NoRoom, 0);
+        return Err(Refusal::NoRoom.into());
     }
-    match cursor_limits::read(text) {
-        value::Answer::Accepted(found) => {
-            limits_layout::write(record, found);
-            accept()
-        }
-        value::Answer::Refused { status, place } => refuse(status, place),
-    }
+    cursor_limits::write(limits_layout::read(record), out)
 }
 
 // Writes the value of a record to the first bytes of `out`.
-#[tactic(auto, unfolding(crate::specs::LimitsCalls::limits_written, crate::specs::LimitsCalls::limits_output))]
 pub fn write(record: &[u8], out: &mut [u8]) -> Written
     ensures answer { result ≡ limits_written «record».now out.old }
     ensures after { out.new ≡ limits_output «record».now out.old }
 {
-    if record.len() < limits_layout::LENGTH {
-        return not_written(Status::NoRoom);
-    }
-    of_writer(cursor_limits::write(limits_layout::read(record), out))
+    write_from(record, out).into()
 }

@@ -14,10 +14,11 @@ ghost use Rattle.wire.specs.Laid.{laid};
 ghost use Rattle.limits_layout.specs.LimitsLayout.{xor_byte, xor_of, number_bytes, limits_bytes, limits_in};
 
 use cursor_limits::value::{Limits, Value, Xor};
-use wire::little_endian::{put_u8, put_u16, u8_at, u16_at};
+use wire::little_endian;
 
 pub const LENGTH: usize = 8;
 
+// Of the byte of the XOR operation. A function and no From: u8 and Xor are types of other crates.
 #[tactic(auto, unfolding(crate::specs::LimitsLayout::xor_of))]
 fn xor_of(byte: u8) -> Xor
     ensures { result ≡ xor_of byte }
@@ -28,28 +29,19 @@ fn xor_of(byte: u8) -> Xor
     }
 }
 
-fn byte_of(xor: Xor) -> u8
-    ensures { result ≡ xor_byte xor }
-{
-    match xor {
-        Xor::None => 0,
-        Xor::Full => 1,
-    }
-}
-
 // The value in the bytes; a number whose bytes are not all there counts as 0.
 #[tactic(auto, unfolding(crate::specs::LimitsLayout::limits_in))]
 pub fn read(record: &[u8]) -> Value
     ensures { result ≡ limits_in «record».now }
 {
-    if u8_at(record, 0) == 0 {
+    if little_endian::read::<u8>(record, 0) == 0 {
         return Value::NotSupported;
     }
     Value::Supported(Limits {
-        xor: xor_of(u8_at(record, 1)),
-        width: u16_at(record, 2),
-        height: u16_at(record, 4),
-        port: u16_at(record, 6),
+        xor: xor_of(little_endian::read(record, 1)),
+        width: little_endian::read(record, 2),
+        height: little_endian::read(record, 4),
+        port: little_endian::read(record, 6),
     })
 }
 
@@ -61,11 +53,11 @@ fn write_numbers(record: &mut [u8], supported: u8, xor: u8, width: u16, height: 
     if record.len() < LENGTH {
         return;
     }
-    put_u8(record, 0, supported);
-    put_u8(record, 1, xor);
-    put_u16(record, 2, width);
-    put_u16(record, 4, height);
-    put_u16(record, 6, port);
+    little_endian::write(record, 0, supported);
+    little_endian::write(record, 1, xor);
+    little_endian::write(record, 2, width);
+    little_endian::write(record, 4, height);
+    little_endian::write(record, 6, port);
 }
 
 // Writes the value; where the bytes are fewer than its layout's, nothing changes.
@@ -78,7 +70,7 @@ pub fn write(record: &mut [u8], value: Value)
             write_numbers(
                 record,
                 1,
-                byte_of(limits.xor),
+                u8::from(limits.xor == Xor::Full),
                 limits.width,
                 limits.height,
                 limits.port,

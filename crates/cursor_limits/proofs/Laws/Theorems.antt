@@ -9,7 +9,12 @@ use borrow.Author.Tests.{le-leb, lt-leb, eq-eqb, ne_eqb, eqb-true, leb-true}
 use lib.Dec.{leb, eqb}
 use lib.ListN.{length, get_or, take, drop, take-append-drop, length-append, length-drop}
 use lib.Seq.{drop-cons, drop-drop, drop_at, take_at, take_all, drop-length}
-use Rattle.wire.specs.declared.status.Status.TheVariants as status
+use Rattle.std.proofs.Common.{Result, Ok, Err}
+use Rattle.std.specs.Option.{ok_or, option_map}
+use Rattle.wire.specs.declared.status.Refusal.TheVariants as refusal
+use Rattle.wire.specs.declared.status.Refused.{Refused}
+use Rattle.wire.specs.Status.{refused_at}
+use Rattle.wire.specs.Numbered.{numbered}
 use Rattle.wire.specs.Splice.{part}
 use Rattle.wire.proofs.Laws.Splice.{length_part, part_of_splice}
 use Rattle.std.proofs.Common.{Option, Some, None}
@@ -18,9 +23,6 @@ use Rattle.cursor_limits.specs.declared.value.Xor.TheVariants as xor
 use Rattle.cursor_limits.specs.declared.value.Limits.{Limits}
 use Rattle.cursor_limits.specs.declared.value.Value.{Value}
 use Rattle.cursor_limits.specs.declared.value.Value.TheVariants as value
-use Rattle.cursor_limits.specs.declared.value.Answer.{Answer}
-use Rattle.cursor_limits.specs.declared.value.Answer.TheVariants as answer
-use Rattle.wire.specs.declared.written.Written.TheVariants as written
 use Rattle.text.specs.Abnf.{space, HexDigs}
 use Rattle.cursor_limits.specs.Grammar.{none_word, full_word, XorSupport, xor_none, xor_full, SinkCursorCaps, caps, Means, not_supported, supported}
 use Rattle.wire.specs.Below.{all_below}
@@ -28,7 +30,7 @@ use Rattle.text.specs.Range.{within}
 use Rattle.text.specs.Hex.{read_digits}
 use Rattle.wire.specs.Laid.{laid}
 use Rattle.text.specs.Word.{lowered, same_letter, spells, raised}
-use Rattle.cursor_limits.specs.Reading.{numbered, not_grammar, read_field, limits_of, read_limits, read_value}
+use Rattle.cursor_limits.specs.Reading.{not_grammar, read_field, limits_of, read_limits, meaning, read_value}
 use Rattle.cursor_limits.specs.Writing.{spell_xor, spell_field, spell_limits, spelling, write_answer}
 use Rattle.cursor_limits.specs.Theorems.{AcceptsGrammar, RefusesTheRest, TenIfShort, OneMeaning, Sized, none_sized, limits_sized, ReadsBack, canonical, Canonical}
 use Rattle.wire.proofs.Laws.Bool.{impossible}
@@ -80,14 +82,14 @@ unfolding read_field
 field_read ds = hexdigs_read ds
 
 -- nineteen bytes that begin with a word for the xor support are read as limits
-word_read : (s a : List ℕ) {x : Xor} → XorSupport a x → take 4 s ≡ a → length s ≡ 19 → read_value s ≡ read_limits x s
-unfolding read_value
+word_read : (s a : List ℕ) {x : Xor} → XorSupport a x → take 4 s ≡ a → length s ≡ 19 → meaning s ≡ option_map value.Supported (read_limits x s)
+unfolding meaning
 word_read s a (xor_none q) e n =
     simp (other_length none_word s (λ f. omega arith), eq-eqb (length s) 19 n, e, quoted_spells q)
 word_read s a (xor_full q) e n =
     simp (other_length none_word s (λ f. omega arith), eq-eqb (length s) 19 n, e, full_not_none q, quoted_spells q)
 
-caps_read : {s : List ℕ} {l : Limits} → SinkCursorCaps s l → read_value s ≡ answer.Accepted (value.Supported l)
+caps_read : {s : List ℕ} {l : Limits} → SinkCursorCaps s l → meaning s ≡ Some (value.Supported l)
 unfolding read_limits
 caps_read (caps {a} {b} {c} {d} {x} xs ws hs ps) =
     let p = xor_length xs in
@@ -97,10 +99,14 @@ caps_read (caps {a} {b} {c} {d} {x} xs ws hs ps) =
     word_read (whole a b c d p q r t) a xs (whole_word a b c d p q r t) (whole_length a b c d p q r t)
     ∙ rw (whole_width a b c d p q r t, whole_height a b c d p q r t, whole_port a b c d p q r t, field_read ws, field_read hs, field_read ps)
 
-means_read : {s : List ℕ} {v : Value} → Means s v → read_value s ≡ answer.Accepted v
+has_meaning : {s : List ℕ} {v : Value} → Means s v → meaning s ≡ Some v
+unfolding meaning
+has_meaning (not_supported q) = simp (quoted_spells q)
+has_meaning (supported cs) = caps_read cs
+
+means_read : {s : List ℕ} {v : Value} → Means s v → read_value s ≡ Ok v
 unfolding read_value
-means_read (not_supported q) = simp (quoted_spells q)
-means_read (supported cs) = caps_read cs
+means_read m = rw (has_meaning m)
 
 -- What is read is a string of the grammar.
 
@@ -133,13 +139,13 @@ spaced a t u w e f g =
     ap (λ (l : List ℕ). a ++ (l ++ (u ++ w))) e ∙ ap (λ (l : List ℕ). a ++ ((space ∷ drop 1 t) ++ (l ++ w))) f
     ∙ ap (λ (l : List ℕ). a ++ ((space ∷ drop 1 t) ++ ((space ∷ drop 1 u) ++ l))) g
 
-limits_means : (x : Xor) (s : List ℕ) (v : Value) → length s ≡ 19 → XorSupport (take 4 s) x → read_limits x s ≡ answer.Accepted v → Means s v
+limits_means : (x : Xor) (s : List ℕ) (l : Limits) → length s ≡ 19 → XorSupport (take 4 s) x → read_limits x s ≡ Some l → Means s (value.Supported l)
 unfolding read_limits
-limits_means x s v n xs e = go (read_field (part 4 5 s)) (read_field (part 9 5 s)) (read_field (part 14 5 s)) refl refl refl e
+limits_means x s l n xs e = go (read_field (part 4 5 s)) (read_field (part 9 5 s)) (read_field (part 14 5 s)) refl refl refl e
   where
     go
         : (i j k : Option ℕ) → read_field (part 4 5 s) ≡ i → read_field (part 9 5 s) ≡ j → read_field (part 14 5 s) ≡ k
-        → limits_of x i j k ≡ answer.Accepted v → Means s v
+        → limits_of x i j k ≡ Some l → Means s (value.Supported l)
     go None j k p q r f = impossible (cc)
     go (Some w) None k p q r f = impossible (cc)
     go (Some w) (Some h) None p q r f = impossible (cc)
@@ -149,33 +155,48 @@ limits_means x s v n xs e = go (read_field (part 4 5 s)) (read_field (part 9 5 s
         let port = field_means (part 14 5 s) o (length_part 14 5 s (omega arith)) r in
         let all = parts s n ∙ spaced (take 4 s) (part 4 5 s) (part 9 5 s) (part 14 5 s) width.0 height.0 port.0 in
         let found : Limits = record { xor = x; width = w; height = h; port = o } in
-        let is : value.Supported found ≡ v = cc in
-        subst (λ (u : Value). Means s u) is
-        (subst (λ (l : List ℕ). Means l (value.Supported found)) (sym all) (supported (caps xs width.1 height.1 port.1)))
+        let is : found ≡ l = cc in
+        subst (λ (m : Limits). Means s (value.Supported m)) is
+        (subst (λ (t : List ℕ). Means t (value.Supported found)) (sym all) (supported (caps xs width.1 height.1 port.1)))
 
--- the reading by what its four tests say
-abbrev chosen : Bool → Bool → Bool → Bool → List ℕ → Answer
+-- the meaning by what its four tests say
+abbrev chosen : Bool → Bool → Bool → Bool → List ℕ → Option Value
 chosen a b c d s =
-    cond a (answer.Accepted value.NotSupported)
-    (cond b (cond c (read_limits xor.None s) (cond d (read_limits xor.Full s) not_grammar)) not_grammar)
+    cond a (Some value.NotSupported)
+    (cond b
+    (cond c (option_map value.Supported (read_limits xor.None s)) (cond d (option_map value.Supported (read_limits xor.Full s)) None))
+    None)
 
-read_means : (s : List ℕ) (v : Value) → read_value s ≡ answer.Accepted v → Means s v
-unfolding read_value
-read_means s v e =
+meaning_means : (s : List ℕ) (v : Value) → meaning s ≡ Some v → Means s v
+unfolding meaning
+meaning_means s v e =
     go (spells none_word s) (eqb (length s) 19) (spells none_word (take 4 s)) (spells full_word (take 4 s)) refl refl refl refl e
   where
+    by_limits
+        : (x : Xor) (o : Option Limits) → length s ≡ 19 → XorSupport (take 4 s) x → read_limits x s ≡ o → option_map value.Supported o ≡ Some v → Means s v
+    by_limits x None n xs p f = impossible (cc)
+    by_limits x (Some l) n xs p f = let is : value.Supported l ≡ v = cc in subst (λ (u : Value). Means s u) is (limits_means x s l n xs p)
+
     go
         : (a b c d : Bool) → spells none_word s ≡ a → eqb (length s) 19 ≡ b → spells none_word (take 4 s) ≡ c → spells full_word (take 4 s) ≡ d
-        → chosen a b c d s ≡ answer.Accepted v → Means s v
+        → chosen a b c d s ≡ Some v → Means s v
     go true b c d p q r t f =
         let is : value.NotSupported ≡ v = cc in
         subst (λ (u : Value). Means s u) is (not_supported (spells_quoted none_word s none_small p))
     go false true true d p q r t f =
-        limits_means xor.None s v (eqb-true (length s) 19 q) (xor_none (spells_quoted none_word (take 4 s) none_small r)) f
+        by_limits xor.None (read_limits xor.None s) (eqb-true (length s) 19 q) (xor_none (spells_quoted none_word (take 4 s) none_small r)) refl f
     go false true false true p q r t f =
-        limits_means xor.Full s v (eqb-true (length s) 19 q) (xor_full (spells_quoted full_word (take 4 s) full_small t)) f
+        by_limits xor.Full (read_limits xor.Full s) (eqb-true (length s) 19 q) (xor_full (spells_quoted full_word (take 4 s) full_small t)) refl f
     go false true false false p q r t f = impossible (cc)
     go false false c d p q r t f = impossible (cc)
+
+read_means : (s : List ℕ) (v : Value) → read_value s ≡ Ok v → Means s v
+unfolding read_value
+read_means s v e = meaning_means s v (some_from (meaning s) e)
+  where
+    some_from : (o : Option Value) → ok_or o (refused_at refusal.NotGrammar 0) ≡ Ok v → o ≡ Some v
+    some_from None f = impossible (cc)
+    some_from (Some u) f = cc
 
 pub accepts_grammar : AcceptsGrammar
 unfolding AcceptsGrammar
@@ -187,35 +208,21 @@ one_meaning s v w m n = let e = means_read m in let f = means_read n in cc
 
 -- Reading answers a record or 16.
 
-abbrev Decided : Answer → Type 0
-Decided r = ((v : Value) × (r ≡ answer.Accepted v)) ⊎ (r ≡ not_grammar)
-
-decided_limits : (x : Xor) (i j k : Option ℕ) → Decided (limits_of x i j k)
-decided_limits x None j k = inr refl
-decided_limits x (Some w) None k = inr refl
-decided_limits x (Some w) (Some h) None = inr refl
-decided_limits x (Some w) (Some h) (Some p) = inl (_, refl)
-
-decided_fields : (x : Xor) (s : List ℕ) → Decided (read_limits x s)
-unfolding read_limits
-decided_fields x s = decided_limits x (read_field (part 4 5 s)) (read_field (part 9 5 s)) (read_field (part 14 5 s))
-
-decided : (s : List ℕ) → Decided (read_value s)
+decided : (s : List ℕ) → ((v : Value) × (read_value s ≡ Ok v)) ⊎ (read_value s ≡ not_grammar)
 unfolding read_value
-decided s = go (spells none_word s) (eqb (length s) 19) (spells none_word (take 4 s)) (spells full_word (take 4 s))
+decided s = go (meaning s)
   where
-    go : (a b c d : Bool) → Decided (chosen a b c d s)
-    go true b c d = inl (_, refl)
-    go false true true d = decided_fields xor.None s
-    go false true false true = decided_fields xor.Full s
-    go false true false false = inr refl
-    go false false c d = inr refl
+    go
+        : (o : Option Value)
+        → ((v : Value) × (ok_or o (refused_at refusal.NotGrammar 0) ≡ Ok v)) ⊎ (ok_or o (refused_at refusal.NotGrammar 0) ≡ not_grammar)
+    go None = inr refl
+    go (Some v) = inl (v, refl)
 
 pub refuses_the_rest : RefusesTheRest
 unfolding RefusesTheRest
 refuses_the_rest s = (
   λ none. ⊎_elim (λ w. absurd (none w.0 (read_means s w.0 w.1))) (λ e. ap numbered e) (decided s),
-  λ e v m. let f : (numbered (read_value s)).number ≡ 0 = ap (λ (a : Answer). (numbered a).number) (means_read m) in (let no : ⊥ = omega arith in no),
+  λ e v m. let f : (numbered (read_value s)).number ≡ 0 = ap (λ (a : Result Value Refused). (numbered a).number) (means_read m) in (let no : ⊥ = omega arith in no),
 )
 
 pub ten_if_short : TenIfShort
@@ -240,14 +247,14 @@ spelling_means (limits_sized {l} w h p) =
 
 -- a writer that answers n has laid down a spelling of n bytes
 spelled_out
-    : (v : Value) (out : List ℕ) (n : ℕ) → write_answer v (length out) ≡ written.Wrote n
+    : (v : Value) (out : List ℕ) (n : ℕ) → write_answer v (length out) ≡ Ok n
     → take n (laid (spelling v) out) ≡ spelling v
 unfolding write_answer
 spelled_out v out n e = go (leb (length (spelling v)) (length out)) refl e
   where
     go
         : (b : Bool) → leb (length (spelling v)) (length out) ≡ b
-        → cond b (written.Wrote (length (spelling v))) (written.Refused status.NoRoom 0) ≡ written.Wrote n
+        → cond b (Ok (length (spelling v))) (Err (refused_at refusal.NoRoom 0)) ≡ Ok n
         → take n (laid (spelling v) out) ≡ spelling v
     go true h f =
         let size : length (spelling v) ≡ n = cc in
