@@ -53,6 +53,7 @@ pub fn read(record: &[u8]) -> Message
 }
 
 // Writes the field in the 9 bytes from `at`.
+#[tactic(auto, using(crate::proofs::Laws::MessageLayout::field_written, wire::proofs::Laws::Layout::flag_byte))]
 fn write_field(record: &mut [u8], at: usize, field: Field)
     requires { at + 9 ≤ length «record».old }
     ensures { «record».new ≡ splice at (field_bytes field) «record».old }
@@ -63,6 +64,7 @@ fn write_field(record: &mut [u8], at: usize, field: Field)
 }
 
 // Writes the record; where the bytes are fewer than its layout's, nothing changes.
+#[tactic(auto, using(crate::proofs::Laws::MessageLayout::message_written_lem, crate::proofs::Laws::MessageLayout::length_message, wire::proofs::Laws::Laid::laid_short))]
 pub fn write(record: &mut [u8], message: Message)
     ensures { «record».new ≡ laid (message_bytes message) «record».old }
 {

@@ -22,6 +22,7 @@ pub fn read_size(bytes: &[u8]) -> Result<usize, Refusal>
 }
 
 // Whether the header of a message of that Size and command is right, or what it is refused with.
+#[tactic(auto, unfolding(wire::specs::Checks::first_of, crate::specs::Reading::header_status))]
 fn check_after_size(bytes: &[u8], size: usize, command: u8) -> Status
     requires { (4 ≤ length bytes.now) × (size ≡ size_in bytes.now) × (4 ≤ size) × (command ≡ command_in bytes.now) }
     ensures { result ≡ header_status bytes.now }
@@ -42,6 +43,7 @@ fn check_after_size(bytes: &[u8], size: usize, command: u8) -> Status
 }
 
 // Whether the header of a message of that command is right, or what it is refused with: its size, version or command.
+#[tactic(auto, using(crate::proofs::Laws::Header::size_declared, crate::proofs::Laws::Header::size_refused))]
 pub(crate) fn check(bytes: &[u8], command: u8) -> Status
     requires { command ≡ command_in bytes.now }
     ensures { result ≡ header_status bytes.now }

@@ -13,6 +13,7 @@ use message_rules::record::Message;
 use wire::status::Refused;
 
 // Reads a message, which is all of the lent bytes: its record, or the refusal and its place.
+#[tactic(auto, using(crate::proofs::Laws::Answer::answered))]
 pub fn read(bytes: &[u8]) -> Result<Message, Refused>
     ensures { result ≡ read_message bytes.now }
 {

@@ -17,6 +17,7 @@ pub(crate) struct Tlv {
 }
 
 // The TLV at `at`, in a message of that command. `values` has the values of the TLVs before it. The place of a refusal is that of the TLV.
+#[tactic(auto, unfolding(wire::specs::Checks::first_of, crate::specs::Reading::tlv_at, crate::specs::Values::message_from), using(crate::proofs::Laws::Values::taken))]
 pub(crate) fn tlv_at(bytes: &[u8], at: usize, command: u8, values: &Values) -> Result<Tlv, Refusal>
     requires { at ≤ length bytes.now }
     ensures { result ≡ tlv_at bytes.now at (message_from command values.now) }

@@ -42,6 +42,7 @@ fn has_needed(command: u8, kind: u8, values: &Values) -> bool
 }
 
 // Whether no TLV that the command needs is missing.
+#[tactic(auto, unfolding(crate::specs::Reading::is_complete), using(wire::proofs::Laws::Below::below_none, wire::proofs::Laws::Below::below_next))]
 fn is_complete(command: u8, values: &Values) -> bool
     ensures { result ≡ is_complete (message_from command values.now) }
 {
@@ -54,6 +55,7 @@ fn is_complete(command: u8, values: &Values) -> bool
 }
 
 // The TLVs after the header, from left to right, and last whether one is missing. No value is noted yet; the answer is the command.
+#[tactic(auto, using(crate::proofs::Laws::Walk::turn))]
 fn walk(bytes: &[u8], command: u8, values: &mut Values) -> Result<u8, Refused>
     requires { (length bytes.now ≤ 65535) × (values.old ≡ none) }
     ensures answer { result ≡ command_of (tlvs_from (length bytes.now) bytes.now 4 (empty_of command)) }
@@ -84,6 +86,7 @@ fn walk(bytes: &[u8], command: u8, values: &mut Values) -> Result<u8, Refused>
 
 // The command of a message, which is all of the lent bytes. For an accepted message `values` are those of its record; a refused one leaves
 // none.
+#[tactic(auto, unfolding(wire::specs::Number::number_in), using(crate::proofs::Laws::Reading::located))]
 pub fn locate(bytes: &[u8], values: &mut Values) -> Result<u8, Refused>
     ensures answer { result ≡ command_of (read_message bytes.now) }
     ensures values { values.new ≡ values_after (read_message bytes.now) }

@@ -14,6 +14,7 @@ pub enum Line {
 }
 
 // The line of the place where `bytes` begin. Bytes after the first message are not looked at.
+#[tactic(auto, unfolding(crate::specs::Line::line_of, crate::specs::Cut::needed_of), using(crate::proofs::Laws::Line::line_short, crate::proofs::Laws::Line::positive))]
 pub fn first_line(bytes: &[u8]) -> Line
     ensures { result ≡ line_of bytes.now }
 {

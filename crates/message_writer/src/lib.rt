@@ -14,6 +14,7 @@ use wire::number;
 use wire::status::{Refusal, Refused};
 
 // Whether the record's field of this type can be written from n lent bytes.
+#[tactic(auto, unfolding(crate::specs::Writing::field_ok))]
 fn field_ok(n: usize, message: Message, kind: u8) -> bool
     ensures { result ≡ field_ok n message kind }
 {
@@ -51,6 +52,7 @@ fn size_of_fields(n: usize, message: Message) -> Option<usize>
 }
 
 // The size of the record's message, if it can be written.
+#[tactic(auto, unfolding(crate::specs::Writing::writable), using(crate::proofs::Laws::Writing::no_size, std::proofs::lemmas::Option::cond_some))]
 fn size_of(n: usize, message: Message) -> Option<usize>
     ensures { result ≡ cond (writable n message) (Some (size_to message 8)) None }
 {

@@ -19,3 +19,6 @@ answer_accepted (Err r) c q = absurd (IfErr-at_err (λ (x : Refused). ⊥) q tt)
 pub answer_refused : (a : Answer) (r : Refused) → Err r ≡ command_of a → Err r ≡ a
 answer_refused (Ok m) r q = absurd (IfOk-at_ok (λ (x : ℕ). ⊥) q tt)
 answer_refused (Err x) r q = ap Err (IfErr-at_err (λ (y : Refused). r ≡ y) q refl)
+
+-- what a call that locates the values rests on
+pub ruleset answered = (answer_accepted, answer_refused)

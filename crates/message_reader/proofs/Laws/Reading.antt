@@ -316,3 +316,6 @@ zero_exactly s = (zero_accepted s (read_message s) (of_read s), λ m k. ap numbe
 pub accepted_exactly : AcceptedExactly
 unfolding AcceptedExactly
 accepted_exactly s m = (λ e. subst (OfAnswer s) e (of_read s), accepts s m)
+
+-- what `walk::locate` rests on
+pub ruleset located = (header_right, header_refused, headed_short, headed_read)

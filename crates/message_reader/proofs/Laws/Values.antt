@@ -95,3 +95,6 @@ unfolding has_needed message_from
 needed_found c values t e =
     let own = needed_own (role_of c t) e in
     simp (true_same_role (role_of c t) needed e) (found_present c values t (type_small c t own) (type_not_1 c t own))
+
+-- what `tlv::tlv_at` rests on
+pub ruleset taken = (type_small, type_not_1, found_present)

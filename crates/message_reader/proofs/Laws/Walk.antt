@@ -91,3 +91,6 @@ module _ {s : List ℕ} {c at : ℕ} {values : List Field} (g : Walked s c at va
   pub walked_missing : is_complete (message_from c values) ≡ false → Err (refused_at refusal.TlvUnexpected (length s)) ≡ Whole s c
   unfolding last_of
   walked_missing e = simp e at last
+
+-- what a turn of `walk::walk` rests on
+pub ruleset turn = (walked_start, walked_next, walked_refused)

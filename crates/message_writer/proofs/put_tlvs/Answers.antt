@@ -57,15 +57,3 @@ loop-kind-preserved c = let pre = c.requires in
             w.out-is ∙ l.invariant.1 ∙ ap (λ (b : List ℕ). splice 4 b xs) (sym (body_none a.message s l.kind p)),
           )
     ]
-
-pub shape_of-out : goal.shape_of-out
-shape_of-out c = let pre = c.requires in
-    let a = c.args in
-    let l = c.loop-kind in
-    ap length l.invariant.1 ∙ laid_length a.bytes.now a.message a.out.now pre.0 pre.1 l.kind (omega arith)
-
-pub returns : goal.returns
-returns c = let a = c.args in
-    let l = c.loop-kind in
-    let e : l.kind ≡ 8 = omega arith in
-    l.invariant.1 ∙ ap (λ (k : ℕ). splice 4 (body_to a.bytes.now a.message k) a.out.now) e

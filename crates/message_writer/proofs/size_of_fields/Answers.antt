@@ -4,7 +4,6 @@ use Prim.Native.Nat.{ℕ, ◌≤◌}
 use mathlib.Core.Path.{◌≡◌, refl, sym, ap, ◌∙◌}
 use mathlib.Core.Bool.{true}
 use native.Mathlib.Omega.{arith}
-use Rattle.std.specs.Prelude.{Some}
 use Rattle.message_rules.specs.declared.record.Field.{Field}
 use Rattle.message_rules.specs.declared.record.Message.{Message}
 use Rattle.message_rules.specs.Record.{field_of, size_to}
@@ -26,13 +25,6 @@ pub returns-then-not-field_ok : goal.returns-then-not-field_ok
 returns-then-not-field_ok c = let a = c.args in
     rw (one_below (field_ok a.n a.message) 8 c.loop-kind.kind c.loop-kind-test.true (sym c.field_ok.ensures ∙ c.if-not-field_ok.true))
 
-pub overflow_add-size-then-value : goal.overflow_add-size-then-value
-overflow_add-size-then-value c = let f = c.field_of-value in
-    let l = c.loop-kind in
-    let a = c.args in
-    let ok = sym c.field_ok.ensures ∙ c.if-not-field_ok.false in
-    omega (arith, small a.n a.message l.kind f.result f.ensures ok c.if-value.true, l.invariant)
-
 pub loop-kind-preserved : goal.loop-kind-preserved
 loop-kind-preserved c = let f = c.field_of-value in
     let l = c.loop-kind in
@@ -49,9 +41,3 @@ loop-kind-preserved c = let f = c.field_of-value in
           let e = size_none a.message l.kind (rw f.ensures at w.if-value.false) in
           (all, omega (arith, w.size-is, e, l.invariant), omega (arith, w.size-is, l.invariant))
     ]
-
-pub returns : goal.returns
-returns c = let l = c.loop-kind in
-    let a = c.args in
-    let e : l.kind ≡ 8 = omega arith in
-    rw (rw e at l.invariant.0) (ap Some (l.invariant.1 ∙ ap (size_to a.message) e))

@@ -4,19 +4,8 @@ use native.Mathlib.Omega.{arith}
 use Rattle.std.specs.Prelude.{Err}
 use Rattle.message_reader.specs.Values.{message_from, values_after, command_of}
 use Rattle.message_reader.proofs.Laws.Values.{values_back}
-use Rattle.message_reader.proofs.Laws.Walk.{walked_start, walked_fits, walked_next, walked_refused, walked_complete, walked_missing}
+use Rattle.message_reader.proofs.Laws.Walk.{walked_fits, walked_complete, walked_missing}
 use Rattle.message_reader.proofs.walk.walk.Goals as goal
-
-pub loop-at-init : goal.loop-at-init
-loop-at-init c = walked_start _ _ _ c.requires.0 c.requires.1
-
-pub loop-at-preserved : goal.loop-at-preserved
-loop-at-preserved c = walked_next c.loop-at.invariant c.loop-at-test.true _ _ (sym c.tlv_at.ensures ∙ c.in-Ok.is)
-
-pub returns-in-Err : goal.returns-in-Err
-returns-in-Err c = let w = walked_refused c.loop-at.invariant c.loop-at-test.true _ (sym c.tlv_at.ensures ∙ c.in-Err.is) in
-    let r = c.refuse.ensures in
-    record { answer = ap Err r.answer ∙ ap command_of w; values = r.values ∙ ap values_after w }
 
 pub returns-then-is_complete : goal.returns-then-is_complete
 unfolding message_from
