@@ -4,7 +4,7 @@ ghost use Rattle.session_table.specs.Record.{fresh_session};
 
 use message_rules::accessors::SourceId;
 
-#[derive(Clone, Copy, PartialEq, Eq)]
+#[derive(Clone, Copy, Debug, PartialEq, Eq)]
 pub enum State {
     Waiting,
     Handshake,
