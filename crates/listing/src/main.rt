@@ -147,9 +147,10 @@ impl<'a, R: Read> Listing<'a, R> {
     }
 
     // Reads once, after the bytes that are not listed yet, which are moved to the buffer's front. They leave room, so that a read of no bytes
-    // is the end of the recording.
+    // is the end of the recording. No line waits to be written.
     fn read_more(&mut self)
-        requires { self.old.state.to < self.old.state.from + length self.old.buf }
+        requires room { self.old.state.to < self.old.state.from + length self.old.buf }
+        requires written { self.old.state.used ≡ 0 }
         ensures window { (self.new.state.from ≤ self.new.state.to) × (self.new.state.to ≤ length self.new.buf) × (self.new.state.used ≡ self.old.state.used) × (self.new.state.place ≡ self.old.state.place) }
         ensures kept { take (self.old.state.to - self.old.state.from) (drop self.new.state.from self.new.buf) ≡ take (self.old.state.to - self.old.state.from) (drop self.old.state.from self.old.buf) }
         ensures lines { (self.new.out ≡ self.old.out) × (length self.new.buf ≡ length self.old.buf) }

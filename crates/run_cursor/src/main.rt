@@ -19,7 +19,7 @@ fn position<const N: usize>(rt: &HostRuntime, host: &mut Host<N>, packet: &[u8])
 // The bytes at five places.
 fn bytes_at(rt: &HostRuntime, s: &[u8], places: [usize; 5]) -> io::Result<()> {
     for at in places {
-        print!(rt; " {}", number::u8_at(s, at))?;
+        print!(rt; " {}", number::read::<u8>(s, at))?;
     }
     Ok(())
 }

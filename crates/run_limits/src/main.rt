@@ -3,9 +3,8 @@
 
 ghost use Rattle.std.specs.Prelude.{◌≤◌};
 
-use cursor_limits::value::{Answer, Limits, Value, Xor};
+use cursor_limits::value::{Limits, Value, Xor};
 use std::io;
-use wire::status;
 
 // The fields of a value.
 #[derive(Clone, Copy)]
@@ -41,12 +40,9 @@ fn sample(field: Field, number: u16) -> Limits {
 
 // Whether the limits, written and read, come back the same.
 fn comes_back(limits: Limits) -> bool {
+    let value = Value::Supported(limits);
     let mut text = [0; 19];
-    cursor_limits::write(Value::Supported(limits), &mut text);
-    match cursor_limits::read(&text) {
-        Answer::Accepted(Value::Supported(found)) => found == limits,
-        _ => false,
-    }
+    cursor_limits::write(value, &mut text).is_ok() && cursor_limits::read(&text) == Ok(value)
 }
 
 // How many of the 65,536 numbers of the field come back.
@@ -76,9 +72,9 @@ fn show_limits(rt: &HostRuntime, limits: Limits) -> io::Result<()> {
 fn show(rt: &HostRuntime, text: &str) -> io::Result<()> {
     print!(rt; "\"{text}\" ")?;
     match cursor_limits::read(text.as_bytes()) {
-        Answer::Accepted(Value::NotSupported) => println!(rt; "not supported"),
-        Answer::Accepted(Value::Supported(limits)) => show_limits(rt, limits),
-        Answer::Refused { status, place: _ } => println!(rt; "refused {}", status::number(status)),
+        Ok(Value::NotSupported) => println!(rt; "not supported"),
+        Ok(Value::Supported(limits)) => show_limits(rt, limits),
+        Err(refused) => println!(rt; "refused {}", refused.refusal.number()),
     }
 }
 

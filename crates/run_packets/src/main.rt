@@ -3,19 +3,16 @@
 // eight places.
 #![tactic(auto)]
 
-use cursor_fragment::{Fragment, FragmentAnswer};
+use cursor_fragment::Fragment;
 use cursor_host::shown;
 use cursor_packet::position;
-use cursor_packet::position::PositionAnswer;
 use cursor_picture::Picture;
-use cursor_pointer::{Pointer, PointerAnswer};
-use cursor_store::storing::StoreAnswer;
+use cursor_pointer::Pointer;
 use std::io;
-use wire::status;
-use wire::status::Status;
+use wire::status::Refused;
 
-fn refused(rt: &HostRuntime, status: Status, place: usize) -> io::Result<()> {
-    print!(rt; " refused {} {place}", status::number(status))
+fn print_refused(rt: &HostRuntime, refused: Refused) -> io::Result<()> {
+    print!(rt; " refused {} {}", refused.refusal.number(), refused.place)
 }
 
 fn print_fragment(rt: &HostRuntime, fragment: Fragment) -> io::Result<()> {
@@ -37,13 +34,13 @@ fn print_fragment(rt: &HostRuntime, fragment: Fragment) -> io::Result<()> {
 fn read_position(rt: &HostRuntime, packet: &[u8]) -> io::Result<()> {
     print!(rt; "position")?;
     match position::read(packet) {
-        PositionAnswer::Accepted(position) => {
+        Ok(position) => {
             print!(rt;
                 " accepted {} {} {}",
                 position.sequence, position.x, position.y
             )?;
         }
-        PositionAnswer::Refused { status, place } => refused(rt, status, place)?,
+        Err(refused) => print_refused(rt, refused)?,
     }
     println!(rt; "")
 }
@@ -51,8 +48,8 @@ fn read_position(rt: &HostRuntime, packet: &[u8]) -> io::Result<()> {
 fn read_fragment(rt: &HostRuntime, packet: &[u8]) -> io::Result<()> {
     print!(rt; "fragment")?;
     match cursor_fragment::read(packet) {
-        FragmentAnswer::Accepted(fragment) => print_fragment(rt, fragment)?,
-        FragmentAnswer::Refused { status, place } => refused(rt, status, place)?,
+        Ok(fragment) => print_fragment(rt, fragment)?,
+        Err(refused) => print_refused(rt, refused)?,
     }
     println!(rt; "")
 }
@@ -60,11 +57,11 @@ fn read_fragment(rt: &HostRuntime, packet: &[u8]) -> io::Result<()> {
 fn call_position(rt: &HostRuntime, packet: &[u8]) -> io::Result<()> {
     print!(rt; "pointer")?;
     match cursor_pointer::position(Pointer::fresh(), packet) {
-        PointerAnswer::Accepted(pointer) => {
+        Ok(pointer) => {
             print!(rt; " accepted")?;
             shown::pointer(rt, pointer)?;
         }
-        PointerAnswer::Refused { status, place } => refused(rt, status, place)?,
+        Err(refused) => print_refused(rt, refused)?,
     }
     println!(rt; "")
 }
@@ -81,13 +78,13 @@ fn call_store(rt: &HostRuntime, packet: &[u8]) -> io::Result<()> {
         &mut image,
         &mut marks,
     ) {
-        StoreAnswer::Accepted(stored) => {
+        Ok(stored) => {
             print!(rt; " accepted")?;
             shown::pointer(rt, stored.pointer)?;
             print!(rt; " picture")?;
             shown::picture(rt, stored.picture)?;
         }
-        StoreAnswer::Refused { status, place } => refused(rt, status, place)?,
+        Err(refused) => print_refused(rt, refused)?,
     }
     let image = hex::encode(rt.alloc(), image)?;
     let marks = hex::encode(rt.alloc(), marks)?;

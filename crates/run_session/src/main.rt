@@ -8,7 +8,6 @@ use message_rules::accessors::SourceId;
 use session_step::in_place;
 use session_table::record::{Session, State};
 use std::io;
-use wire::status;
 
 fn source(present: bool, byte: u8) -> SourceId {
     SourceId {
@@ -75,8 +74,11 @@ fn line(rt: &HostRuntime, case: Case) -> io::Result<()> {
         kept as u8, carried as u8
     )?;
     let after = in_place::lend_and_step(case.session(), event, carried.source(), brought);
-    let status = status::number(after.answer.status);
-    print!(rt; " {status} {}", after.answer.check as u8)?;
+    let (status, check) = match after.answer {
+        Ok(accepted) => (0, accepted.check),
+        Err(refused) => (refused.refusal.number(), false),
+    };
+    print!(rt; " {status} {}", check as u8)?;
     let session = after.session;
     let first = first_byte(session.source);
     println!(rt; " {:?} {} {first}", session.state, session.options)

@@ -7,4 +7,4 @@ pub read_more-requires : goal.read_more-requires
 read_more-requires g c =
     let w = c.show_lines-self.ensures.within in
     let e = c.show_lines-self.ensures.all (c.is_none.ensures ∙ ap not c.if-is_none.true) (omega (arith, w.room)) in
-    undecided_room _ _ c.show_lines-self.result w (λ i. search rules) e
+    record { room = undecided_room _ _ c.show_lines-self.result w (λ i. search rules) e; written = omega arith }
