@@ -23,7 +23,8 @@ fn check_held(record: &[u8]) -> Status
     Ok(())
 }
 
-// The values are located first, so that a refused message writes nothing, and go from there straight into the lent bytes.
+// Reads a message into the record, or refuses. The values are located first, so that a refused message writes nothing, and go from there
+// straight into the lent bytes.
 #[tactic(auto, unfolding(crate::specs::MessageCalls::held, crate::specs::MessageCalls::read_answer, crate::specs::MessageCalls::read_record), using(message_reader::proofs::Laws::Answer::answered))]
 fn read_into(bytes: &[u8], record: &mut [u8]) -> Result<(), Refused>
     ensures answer { answer_of result ≡ read_answer bytes.now «record».old }
@@ -44,6 +45,7 @@ pub fn read(bytes: &[u8], record: &mut [u8]) -> Answer
     read_into(bytes, record).into()
 }
 
+// Writes the message of a record, or refuses.
 #[tactic(auto, unfolding(crate::specs::MessageCalls::held, crate::specs::MessageCalls::message_written, crate::specs::MessageCalls::message_output))]
 fn write_out(bytes: &[u8], record: &[u8], out: &mut [u8]) -> Result<usize, Refused>
     ensures answer { written_of result ≡ message_written bytes.now «record».now out.old }
@@ -61,7 +63,7 @@ pub fn write(bytes: &[u8], record: &[u8], out: &mut [u8]) -> Written
     write_out(bytes, record, out).into()
 }
 
-// A number of a record, if the lent bytes hold one.
+// A number that was read from a record, if the record has all of its bytes.
 #[tactic(auto, unfolding(crate::specs::MessageCalls::held, crate::specs::MessageCalls::number_answer))]
 fn number_held(record: &[u8], value: u16) -> Result<u16, Refused>
     ensures { value_of result ≡ number_answer (length «record».now) value }
@@ -86,6 +88,7 @@ pub fn security_options(bytes: &[u8], record: &[u8]) -> Number
     number_held(record, options.into()).into()
 }
 
+// Copies a record's Source ID to the first 16 bytes of `id`, and answers whether there is one.
 #[tactic(auto, unfolding(crate::specs::MessageCalls::held, crate::specs::MessageCalls::source_answer, crate::specs::MessageCalls::source_lent))]
 fn copy_source(bytes: &[u8], record: &[u8], id: &mut [u8]) -> Result<bool, Refused>
     ensures answer { yes_of result ≡ source_answer bytes.now «record».now id.old }

@@ -12,7 +12,7 @@ use message_rules::rules;
 use wire::number;
 use wire::status::{Refusal, Refused};
 
-// The value of each TLV type; type 1, which there is not, is absent.
+// The value of each TLV type; type 1, which there is not, is absent. (The command stays apart: it is one number, handed on in a register.)
 pub type Values = [Field; 8];
 
 // No value of any type.
@@ -80,7 +80,7 @@ fn walk(bytes: &[u8], command: u8, values: &mut Values) -> Result<u8, Refused>
 }
 
 // The command of a message, which is all of the lent bytes. For an accepted message `values` are those of its record; a refused one leaves
-// none.
+// none. They are lent, and go into a record where it is wanted: with the record in the answer, reading is slower than plain Rust (docs/MEASURED.md).
 #[tactic(auto, unfolding(wire::specs::Number::number_in), using(crate::proofs::Laws::Reading::located))]
 pub fn locate(bytes: &[u8], values: &mut Values) -> Result<u8, Refused>
     ensures answer { result ≡ command_of (read_message bytes.now) }

@@ -7,8 +7,8 @@ use crate::record::{Field, Message};
 use wire::number;
 use wire::unsigned::Unsigned;
 
-// A Source ID, if there is one; if not, its bytes are 0. It is no Option: a session's record with flag 0 keeps the 16 bytes that a host
-// lent (`session_bytes` of crate session_layout).
+// A Source ID, if there is one. It is no Option: a session's record with flag 0 keeps the 16 bytes that a host lent (`session_bytes` of crate
+// session_layout), and one type for a message's and a session's is plainer than two.
 #[derive(Clone, Copy)]
 pub struct SourceId {
     pub present: bool,
@@ -26,7 +26,7 @@ fn first_number<N: Unsigned>(bytes: &[u8], field: Field) -> N
     number::read(bytes, field.at as usize)
 }
 
-// The RTSP port, or 0 where there is none.
+// The RTSP port, or 0 where there is none: the number that a host gets (`port_of`).
 #[tactic(auto, unfolding(crate::specs::Accessors::port_of))]
 pub fn rtsp_port(bytes: &[u8], message: Message) -> u16
     ensures { result ≡ port_of bytes.now message }
@@ -34,7 +34,7 @@ pub fn rtsp_port(bytes: &[u8], message: Message) -> u16
     first_number(bytes, message.rtsp_port)
 }
 
-// The option byte, the first of the Security Options, or 0 where there are none.
+// The option byte, the first of the Security Options, or 0 where there are none, likewise.
 #[tactic(auto, unfolding(crate::specs::Accessors::options_of))]
 pub fn security_options(bytes: &[u8], message: Message) -> u8
     ensures { result ≡ options_of bytes.now message }
@@ -42,7 +42,7 @@ pub fn security_options(bytes: &[u8], message: Message) -> u8
     first_number(bytes, message.security_options)
 }
 
-// The Source ID; where there is none, or its 16 bytes are not within the lent ones, it is not present.
+// The Source ID; where there is none, or its 16 bytes are not within the lent ones, it is not present, and its bytes are 0.
 #[tactic(auto, unfolding(crate::specs::Accessors::source_of))]
 pub fn source_id(bytes: &[u8], message: Message) -> SourceId
     ensures { result ≡ source_of bytes.now message }

@@ -1,4 +1,5 @@
-// The two tables that reader and writer share: which TLV types a command has, and how long the value of each may be.
+// The two tables that reader and writer share: which TLV types a command has, and how long the value of each may be. Commands and types are
+// numbers: the tables are asked for every byte (`role_of`, `length_ok`), as a record may hold any as its command (`MessageBack`).
 ghost use Rattle.std.specs.Prelude.{◌≡◌, ◌<◌};
 ghost use Rattle.message_rules.specs.Rules.{role_of, length_in, length_ok, known_command};
 

@@ -26,7 +26,8 @@ pub struct Stepped {
     pub session: Session,
 }
 
-// An event by its number, and what comes with it: a Source ID, which may be absent, and the option byte.
+// An event by its number, which is what `table::expected` and `source::carries` are asked by, and what comes with it: a Source ID, which may
+// be absent, and the option byte. (`step` takes the three apart: docs/PROMISES.md names it, and a host gives each by itself.)
 #[derive(Clone, Copy)]
 struct Brought {
     event: u8,
