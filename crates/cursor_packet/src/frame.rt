@@ -1,4 +1,4 @@
-// What packets of every type share: the checks before and after those of its type.
+// What packets of every type share: the checks before and after those of their type.
 ghost use Rattle.std.specs.Prelude.{◌≡◌};
 ghost use Rattle.wire.specs.Status.{passed};
 ghost use Rattle.wire.specs.Checks.{first_of};
