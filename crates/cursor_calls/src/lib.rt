@@ -63,7 +63,8 @@ fn are_whole(pointer: usize, picture: usize) -> bool
     pointer_layout::LENGTH <= pointer && picture_layout::LENGTH <= picture
 }
 
-// Moves the pointer in its record where the accepted packet does; else each byte of the record stays, also of a flag that is neither 0 nor 1.
+// Writes the pointer where the accepted packet moves it; else each byte of the record stays, also a flag that is neither 0 nor 1, which
+// `pointer_layout::write` would make 1.
 #[tactic(auto, unfolding(crate::specs::CursorCalls::pointer_left))]
 fn move_pointer(pointer: &mut [u8], packet: &[u8])
     ensures { pointer.new ≡ pointer_left packet.now (pointer_after (pointer_of pointer.old) packet.now) pointer.old }

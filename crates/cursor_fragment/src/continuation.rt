@@ -1,6 +1,5 @@
 // What is a continuation's own: its type and its header (003 section 2.2.3). Its offset is a field of every fragment.
 
-#[derive(Clone, Copy)]
 pub struct Continuation {}
 
 impl Continuation {

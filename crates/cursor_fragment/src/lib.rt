@@ -20,7 +20,6 @@ ghost use Rattle.wire.specs.Number.{number};
 ghost use Rattle.wire.specs.Signed.{signed};
 ghost use Rattle.wire.specs.Status.{passed};
 ghost use Rattle.wire.specs.Checks.{first_of};
-ghost use Rattle.cursor_packet.specs.Frame.{type_of};
 ghost use Rattle.cursor_fragment.specs.Fragment.{takes_type, is_start, header_length, image_data, offset_bits, offset_of, place_of, outside, fragment_as, read_fragment};
 ghost use Rattle.cursor_fragment.specs.Parsing.{body_checks, parsed};
 
@@ -49,15 +48,12 @@ pub fn is_start(packet: &[u8]) -> bool
     number::read::<u8>(packet, 12) == Start::TYPE
 }
 
-// Whether a packet's type is that of a start or of a continuation.
+// Whether a type is that of a start or of a continuation.
 #[tactic(auto, unfolding(crate::specs::Fragment::takes_type))]
-fn is_taken(packet: &[u8]) -> bool
-    ensures { result ≡ takes_type (type_of packet.now) }
+fn is_taken(kind: u8) -> bool
+    ensures { result ≡ takes_type kind }
 {
-    matches!(
-        number::read::<u8>(packet, 12),
-        Start::TYPE | Continuation::TYPE
-    )
+    matches!(kind, Start::TYPE | Continuation::TYPE)
 }
 
 #[tactic(auto, unfolding(crate::specs::Fragment::header_length))]
@@ -120,21 +116,15 @@ fn fields(packet: &[u8], starts: bool, total: u32, place: u32) -> Fragment
 fn parse_body(packet: &[u8], starts: bool) -> Result<Fragment, Refusal>
     ensures { result ≡ passed (first_of (body_checks starts packet.now)) (fragment_as starts packet.now) }
 {
-    let size = number::read::<u16>(packet, 13) as usize;
+    let size: u16 = number::read(packet, 13);
     let least = header(starts);
-    if size < least {
+    if (size as usize) < least {
         return Err(Refusal::WrongSize);
     }
-    let end = Rtp::HEADER + size;
-    if packet.len() < end {
-        return Err(Refusal::Truncated);
-    }
-    if end < packet.len() {
-        return Err(Refusal::WrongSize);
-    }
+    frame::whole(packet, size)?;
     let total = number::read(packet, 15);
     let place = offset_bits(packet, starts);
-    if is_outside(place, size - least, total) {
+    if is_outside(place, size as usize - least, total) {
         return Err(Refusal::OutsideImage);
     }
     Ok(fields(packet, starts, total, place))
@@ -142,20 +132,15 @@ fn parse_body(packet: &[u8], starts: bool) -> Result<Fragment, Refusal>
 
 // The first refusal in 01's order, or the fragment: fewer than 15 bytes 1; RTP 3; another type 4; then the checks of a start or
 // of a continuation.
-#[tactic(auto, unfolding(crate::specs::Parsing::parsed, crate::specs::Parsing::body_checks, crate::specs::Fragment::fragment_checks, crate::specs::Fragment::fragment_frame, cursor_packet::specs::Frame::frame_checks, wire::specs::Checks::first_of))]
+#[tactic(auto, using(crate::proofs::Laws::Fragment::after_kind), unfolding(crate::specs::Parsing::parsed, wire::specs::Checks::first_of))]
 pub fn parse(packet: &[u8]) -> Result<Fragment, Refusal>
     ensures { result ≡ parsed packet.now }
 {
-    if packet.len() < frame::LEAST {
-        return Err(Refusal::Truncated);
-    }
-    if !rtp::holds(packet) {
-        return Err(Refusal::WrongHeader);
-    }
-    if !is_taken(packet) {
+    let kind = frame::kind(packet)?;
+    if !is_taken(kind) {
         return Err(Refusal::UnknownKind);
     }
-    parse_body(packet, is_start(packet))
+    parse_body(packet, kind == Start::TYPE)
 }
 
 // The start or continuation, or its refusal.

@@ -38,7 +38,7 @@ impl Start {
     }
 }
 
-// The start fields of a packet that is a start.
+// The start fields of a packet, where it is a start; a continuation has none.
 #[tactic(auto, unfolding(crate::specs::Start::start_in, crate::specs::Start::start_of))]
 pub(crate) fn read(packet: &[u8], starts: bool) -> Option<Start>
     ensures { result ≡ start_in starts packet.now }
@@ -53,7 +53,7 @@ pub(crate) fn read(packet: &[u8], starts: bool) -> Option<Start>
     })
 }
 
-// Whether the own fields of two starts are the same.
+// Whether the own fields of two starts are the same. PROMISES names this call; code compares by `==`.
 #[tactic(auto, unfolding(crate::specs::Start::same_start))]
 pub fn same(a: Start, b: Start) -> bool
     ensures { result ≡ same_start a b }

@@ -1,3 +1,4 @@
+pub mod Frame
 pub mod Position
 pub mod Rtp
 pub mod UnusedFields

@@ -13,6 +13,20 @@ type_of p = number 1 p 12
 abbrev pub size_of : List ℕ → ℕ
 size_of p = number 2 p 13
 
+-- the checks before that of the type
+abbrev pub kind_checks : List ℕ → List Check
+kind_checks p =
+    refuse refusal.Truncated (ltb (length p) 15)
+    ∷ refuse refusal.WrongHeader (not (rtp_holds p))
+    ∷ []
+
+-- the checks after that of the size: the packet ends where this PacketMsgSize says
+abbrev pub whole_checks : ℕ → List ℕ → List Check
+whole_checks size p =
+    refuse refusal.Truncated (ltb (length p) (12 + size))
+    ∷ refuse refusal.WrongSize (ltb (12 + size) (length p))
+    ∷ []
+
 -- fits: PacketMsgSize is one of this type's
 abbrev pub size_checks : Bool → List ℕ → List Check
 size_checks fits p =

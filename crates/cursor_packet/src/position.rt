@@ -7,7 +7,6 @@ ghost use Rattle.std.specs.Prelude.{◌≡◌};
 ghost use Rattle.wire.specs.Checks.{first_of};
 ghost use Rattle.cursor_packet.specs.Position.{position_checks, position_at, position_of, read_position};
 
-use super::rtp::Rtp;
 use super::{frame, rtp};
 use wire::status::{Refusal, Refused, Status};
 use wire::{number, signed};
@@ -46,31 +45,18 @@ pub fn fields(packet: &[u8]) -> Position
 
 // The first refusal in 01's order, or accepted: fewer than 15 bytes 1; RTP 3; another type 4; PacketMsgSize not 7, 2; too few bytes 1; too
 // many 2.
-#[tactic(auto, unfolding(crate::specs::Position::position_checks, crate::specs::Frame::frame_checks, wire::specs::Checks::first_of))]
+#[tactic(auto, using(crate::proofs::Laws::Frame::after_kind), unfolding(crate::specs::Position::position_checks, wire::specs::Checks::first_of))]
 pub fn check(packet: &[u8]) -> Status
     ensures { result ≡ first_of (position_checks packet.now) }
 {
-    if packet.len() < frame::LEAST {
-        return Err(Refusal::Truncated);
-    }
-    if !rtp::holds(packet) {
-        return Err(Refusal::WrongHeader);
-    }
-    if number::read::<u8>(packet, 12) != Position::TYPE {
+    if frame::kind(packet)? != Position::TYPE {
         return Err(Refusal::UnknownKind);
     }
     let size: u16 = number::read(packet, 13);
     if size != Position::SIZE {
         return Err(Refusal::WrongSize);
     }
-    let end = Rtp::HEADER + size as usize;
-    if packet.len() < end {
-        return Err(Refusal::Truncated);
-    }
-    if end < packet.len() {
-        return Err(Refusal::WrongSize);
-    }
-    Ok(())
+    frame::whole(packet, size)
 }
 
 // The position packet, or its refusal.

@@ -1,6 +1,6 @@
 // The record of the opened picture, and in `completeness` the question whether it is complete. Beside the record the host lends the picture
 // itself, the bytes of the cursor image, and marks, one byte a place: zero means empty, else filled. The places of a picture are 0 to its
-// total − 1; lent bytes and marks beyond them are no places of it.
+// total − 1; lent bytes and marks beyond them are no places of it. Picture and marks are two slices throughout, since the C call lends them apart.
 #![tactic(auto)]
 
 pub mod completeness;
@@ -45,7 +45,7 @@ impl Picture {
     }
 }
 
-// Whether two records are the same in every field.
+// Whether two records are the same in every field. PROMISES names this call; code compares by `==`.
 #[tactic(auto, unfolding(crate::specs::Picture::same_picture, cursor_fragment::specs::Start::same_start))]
 pub fn same(a: Picture, b: Picture) -> bool
     ensures { result ≡ same_picture a b }

@@ -2,7 +2,7 @@
 #![tactic(auto)]
 
 ghost use Rattle.std.specs.Prelude.{◌≡◌};
-ghost use Rattle.cursor_pointer.specs.Pointer.{fresh_pointer, moved_to, moved_by, positioned};
+ghost use Rattle.cursor_pointer.specs.Pointer.{fresh_pointer, moved_to, positioned};
 
 use cursor_packet::position;
 use cursor_packet::position::Position;
@@ -50,23 +50,15 @@ pub fn moved(pointer: Pointer, position: Position) -> Pointer
     pointer
 }
 
-// Takes a position packet: the pointer as the packet sets it, or the first refusal in 01's order.
-#[tactic(auto, using(crate::proofs::Laws::Pointer::position_status_lem), unfolding(crate::specs::Pointer::moved_by))]
-pub fn take(pointer: Pointer, packet: &[u8]) -> Result<Pointer, Refusal>
-    ensures { result ≡ moved_by pointer packet.now }
+// The call for positions: takes type 1 only. The pointer as the packet sets it, or the first refusal in 01's order.
+#[tactic(auto, using(crate::proofs::Laws::Pointer::position_status_lem), unfolding(crate::specs::Pointer::positioned, crate::specs::Pointer::moved_by))]
+pub fn position(pointer: Pointer, packet: &[u8]) -> Result<Pointer, Refused>
+    ensures { result ≡ positioned pointer packet.now }
 {
     position::check(packet)?;
     let position = position::fields(packet);
     if !sequence::newer(pointer.known, pointer.sequence, position.sequence) {
-        return Err(Refusal::NotNewer);
+        return Err(Refusal::NotNewer.into());
     }
     Ok(moved(pointer, position))
-}
-
-// The call for positions: takes type 1 only. The same answer, with the refusal's place.
-#[tactic(auto, unfolding(crate::specs::Pointer::positioned, crate::specs::Pointer::moved_by))]
-pub fn position(pointer: Pointer, packet: &[u8]) -> Result<Pointer, Refused>
-    ensures { result ≡ positioned pointer packet.now }
-{
-    Ok(take(pointer, packet)?)
 }

@@ -117,7 +117,8 @@ pub fn assemble(
     take(picture, fragment, data, image, marks)
 }
 
-// Whether an accepted packet moves the pointer: a start that is newer.
+// Whether an accepted packet moves the pointer: a start that is newer. A yes or no beside the pointer of `moved_by`: PROMISES and the theorem
+// `cursor_store Storing.PointerKept` name both.
 #[tactic(auto, unfolding(crate::specs::Storing::moves))]
 pub fn moves(pointer: Pointer, packet: &[u8]) -> bool
     ensures { result ≡ moves pointer packet.now }
@@ -127,7 +128,7 @@ pub fn moves(pointer: Pointer, packet: &[u8]) -> bool
         && sequence::newer(pointer.known, pointer.sequence, position.sequence)
 }
 
-// The pointer's part: moved by an accepted packet that is a newer start.
+// The pointer's part: moved by an accepted packet that is a newer start. Whether it is moved says `moves`, which the theorem names too.
 #[tactic(auto, unfolding(crate::specs::Storing::pointer_after))]
 pub fn moved_by(pointer: Pointer, packet: &[u8]) -> Pointer
     ensures { result ≡ pointer_after pointer packet.now }

@@ -2,7 +2,7 @@
 use Prim.Native.Nat.{ℕ, ◌+◌, ◌-◌, ◌*◌, ◌^◌, min, ◌≤◌, ◌<◌}
 use mathlib.Core.Path.{◌≡◌, refl, sym, ap, ◌∙◌}
 use Rattle.std.specs.Prelude.{Ok, Err}
-use mathlib.Core.Bool.{Bool, true, false, cond, false≢true}
+use mathlib.Core.Bool.{Bool, true, false, not, cond, false≢true}
 use mathlib.Core.List.{List, [], ◌∷◌}
 use native.Mathlib.Omega.{arith}
 use native.Mathlib.Decide.{dec_lt}
@@ -15,7 +15,9 @@ use Rattle.wire.specs.Signed.{signed}
 use Rattle.wire.specs.declared.status.Refusal.TheVariants as refusal
 use Rattle.wire.specs.Status.{Status, accept, accepted}
 use Rattle.wire.specs.Checks.{refuse, first_of}
-use Rattle.cursor_fragment.specs.Fragment.{is_start, header_length, image_data, offset_bits, offset_of, place_of, outside, is_outside, fragment_frame, fragment_checks, fragment_as, starts, fragment_of, fragment_status, data_of, read_fragment, NumberByChecks, OffsetKept, DataInside}
+use Rattle.cursor_packet.specs.Frame.{type_of, kind_checks, frame_checks}
+use Rattle.cursor_fragment.specs.Parsing.{body_checks}
+use Rattle.cursor_fragment.specs.Fragment.{takes_type, is_start, header_length, image_data, offset_bits, offset_of, place_of, outside, is_outside, fragment_frame, fragment_checks, fragment_as, starts, fragment_of, fragment_status, data_of, read_fragment, NumberByChecks, OffsetKept, DataInside}
 use Rattle.cursor_fragment.specs.Start.{start_in}
 use Rattle.wire.proofs.Laws.Checks.{first_append, numbered_passed}
 
@@ -67,6 +69,13 @@ checks_are
     ≡ cond (accepted (first_of (fragment_frame starts p))) (cond (is_outside starts p) (Err refusal.OutsideImage) accept) (first_of (fragment_frame starts p))
 unfolding fragment_checks first_of
 checks_are starts p = first_append (fragment_frame starts p) (refuse refusal.OutsideImage (is_outside starts p) ∷ [])
+
+-- the checks before the type, then that of the type, then those of the body
+pub after_kind
+    : (p : List ℕ) → fragment_status p
+    ≡ cond (accepted (first_of (kind_checks p))) (first_of (refuse refusal.UnknownKind (not (takes_type (type_of p))) ∷ body_checks (is_start p) p)) (first_of (kind_checks p))
+unfolding fragment_checks fragment_frame frame_checks body_checks
+after_kind p = first_append (kind_checks p) (refuse refusal.UnknownKind (not (takes_type (type_of p))) ∷ body_checks (is_start p) p)
 
 -- an accepted packet passed check 9
 nine_passed : (s : Status) (b : Bool) → accepted (cond (accepted s) (cond b (Err refusal.OutsideImage) accept) s) ≡ true → b ≡ false

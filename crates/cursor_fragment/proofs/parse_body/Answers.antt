@@ -1,12 +1,13 @@
 -- Past the checks on the size, 9 is left. Assumes nothing.
-use Rattle.std.proofs.Common.{ℕ, ◌≡◌, ◌+◌, ◌-◌, ◌≤◌, Bool, cond, List, length, sym, ◌∙◌, arith}
+use Rattle.std.proofs.Common.{ℕ, ◌≡◌, ◌+◌, ◌-◌, ◌≤◌, Bool, cond, List, length, sym, ap, ◌∙◌, arith}
 use borrow.Author.Tests.{le-leb, le-ltb}
 use Rattle.wire.specs.Number.{number}
 use Rattle.wire.specs.Signed.{signed}
 use Rattle.std.specs.Prelude.{Err}
 use Rattle.wire.specs.declared.status.Refusal.TheVariants as refusal
-use Rattle.wire.specs.Status.{accept}
+use Rattle.wire.specs.Status.{accept, accepted}
 use Rattle.wire.specs.Checks.{first_of}
+use Rattle.cursor_packet.proofs.Laws.Frame.{whole_ends}
 use Rattle.cursor_fragment.specs.Fragment.{header_length, offset_bits, outside}
 use Rattle.cursor_fragment.specs.Parsing.{body_checks}
 use Rattle.cursor_fragment.proofs.Laws.Fragment.{body_outside, inside_place}
@@ -24,7 +25,7 @@ nine_left starts p size least total place o es el et ep eo h e =
 pub returns-then-is_outside : goal.returns-then-is_outside
 returns-then-is_outside c =
     let a = c.args in
-    simp (nine_left a.starts a.packet.now _ _ _ _ _ c.read-size.ensures c.header-least.ensures c.read-total.ensures c.offset_bits-place.ensures c.is_outside.ensures c.if-size-least.false (omega arith), c.if-is_outside.true)
+    simp (nine_left a.starts a.packet.now _ _ _ _ _ c.read-size.ensures c.header-least.ensures c.read-total.ensures c.offset_bits-place.ensures c.is_outside.ensures c.if-size-least.false (whole_ends _ a.packet.now (ap accepted (sym c.whole.ensures ∙ c.in_ok-whole.was))), c.if-is_outside.true)
 
 pub fields-requires : goal.fields-requires
 fields-requires c =
@@ -34,4 +35,4 @@ fields-requires c =
 pub returns : goal.returns
 returns c =
     let a = c.args in
-    simp (nine_left a.starts a.packet.now _ _ _ _ _ c.read-size.ensures c.header-least.ensures c.read-total.ensures c.offset_bits-place.ensures c.is_outside.ensures c.if-size-least.false (omega arith), c.if-is_outside.false, ← c.fields.ensures)
+    simp (nine_left a.starts a.packet.now _ _ _ _ _ c.read-size.ensures c.header-least.ensures c.read-total.ensures c.offset_bits-place.ensures c.is_outside.ensures c.if-size-least.false (whole_ends _ a.packet.now (ap accepted (sym c.whole.ensures ∙ c.in_ok-whole.was))), c.if-is_outside.false, ← c.fields.ensures)
