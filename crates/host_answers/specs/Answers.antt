@@ -7,6 +7,7 @@ use Rattle.wire.specs.Status.{refusal_number, refused_at}
 use Rattle.wire.specs.Numbered.{Numbered, accepted_as, refused_as}
 use Rattle.host_answers.specs.declared.Answer.{Answer}
 use Rattle.host_answers.specs.declared.Number.{Number}
+use Rattle.host_answers.specs.declared.Step.{Step}
 use Rattle.host_answers.specs.declared.Written.{Written}
 use Rattle.host_answers.specs.declared.Yes.{Yes}
 
@@ -44,6 +45,11 @@ no_number r = record { status = refusal_number r; value = 0 }
 abbrev pub value_of : Result ℕ Refused → Number
 value_of (Ok n) = record { status = 0; value = n }
 value_of (Err r) = no_number (r.refusal)
+
+-- of a step, which has the host check the PIN or not
+abbrev pub step_as : Result Bool Refused → Step
+step_as (Ok b) = record { status = 0; check = b; place = 0 }
+step_as (Err r) = record { status = refusal_number (r.refusal); check = false; place = r.place }
 
 -- of a question: no where it is refused
 abbrev pub not_answered : Refusal → Yes

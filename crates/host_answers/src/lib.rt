@@ -4,7 +4,7 @@
 ghost use Rattle.std.specs.Prelude.{◌≡◌, length, replicate};
 ghost use Rattle.wire.specs.Laid.{laid};
 ghost use Rattle.wire.specs.Numbered.{numbered};
-ghost use Rattle.host_answers.specs.Answers.{answer_of, written_of, value_of, yes_of};
+ghost use Rattle.host_answers.specs.Answers.{answer_of, written_of, value_of, step_as, yes_of};
 ghost use Rattle.host_answers.specs.Fresh.{fresh_answer};
 
 use scan::bytes;
@@ -57,7 +57,7 @@ fn status_of<T: Copy + Drop>(answer: Result<T, Refused>) -> u8
 {
     match answer {
         Ok(_) => 0,
-        Err(refused) => refused.refusal.number(),
+        Err(refused) => refused.refusal.into(),
     }
 }
 
@@ -94,6 +94,18 @@ impl From<Result<u16, Refused>> for Number {
     }
 }
 
+impl From<Result<bool, Refused>> for Step {
+    ghost from_gives = { λ stepped answer. answer ≡ step_as stepped };
+
+    fn from(stepped: Result<bool, Refused>) -> Step {
+        Step {
+            status: status_of(stepped),
+            check: stepped.unwrap_or(false),
+            place: stepped.err().map_or(0, |refused| refused.place),
+        }
+    }
+}
+
 impl From<Result<bool, Refused>> for Yes {
     ghost from_gives = { λ asked answer. answer ≡ yes_of asked };
 
@@ -106,13 +118,14 @@ impl From<Result<bool, Refused>> for Yes {
 }
 
 // Writes a fresh record, whose bytes are all 0, and answers 0; or 10 where fewer bytes are lent than the record needs, which then stay as they are.
+// The answer is the number that the exports hand on to C.
 #[tactic(auto, unfolding(crate::specs::Fresh::fresh_answer, wire::specs::Laid::laid, wire::specs::Splice::splice))]
 pub fn fresh(record: &mut [u8], needed: usize) -> u8
     ensures answer { result ≡ fresh_answer needed (length «record».old) }
     ensures bytes { «record».new ≡ laid (replicate needed 0) «record».old }
 {
     if record.len() < needed {
-        return Refusal::NoRoom.number();
+        return Refusal::NoRoom.into();
     }
     bytes::fill(&mut record[..needed], 0);
     0

@@ -26,22 +26,11 @@ pub fn fresh(record: &mut [u8]) -> u8
     host_answers::fresh(record, session_layout::LENGTH)
 }
 
-// A step's answer by the paper's number. It is no From, which would have to stand beside one of the two types: each has a crate of its own.
+// A step's answer by the paper's number.
 fn answered(answer: Answer) -> Step
     ensures { result ≡ answer_of answer }
 {
-    match answer {
-        Ok(accepted) => Step {
-            status: 0,
-            check: accepted.check,
-            place: 0,
-        },
-        Err(refused) => Step {
-            status: refused.refusal.number(),
-            check: false,
-            place: refused.place,
-        },
-    }
+    answer.map(|accepted| accepted.check).into()
 }
 
 // A lent slice is too short.

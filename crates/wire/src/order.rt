@@ -13,7 +13,8 @@ fn place(big: bool, n: usize, k: usize) -> usize
     n - 1 - k
 }
 
-// The number in the n bytes from `at`, where all of them are there.
+// The number in the n bytes from `at`, where all of them are there. At most four fit in 32 bits: a number of its own type for n would be
+// no plainer, since only constants are given.
 pub(crate) fn whole(big: bool, s: &[u8], at: usize, n: usize) -> u32
     requires { (n ≤ 4) × (at + n ≤ length s.now) }
     ensures { (result ≡ number_in big n s.now at) × (result < 256 ^ n) }

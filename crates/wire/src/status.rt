@@ -44,12 +44,12 @@ pub enum Refusal {
     NotWritable,
 }
 
-impl Refusal {
-    // The paper's number of a refusal.
-    pub fn number(self) -> u8
-        ensures { result ≡ refusal_number self }
-    {
-        self as u8
+// The paper's number of a refusal.
+impl From<Refusal> for u8 {
+    ghost from_gives = { λ refusal number. number ≡ refusal_number refusal };
+
+    fn from(refusal: Refusal) -> u8 {
+        refusal as u8
     }
 }
 
@@ -77,11 +77,11 @@ pub fn number(status: Status) -> u8
 {
     match status {
         Ok(()) => 0,
-        Err(refusal) => refusal.number(),
+        Err(refusal) => refusal.into(),
     }
 }
 
-// The status of a number. No refusal has a number above 18: one is an unknown kind.
+// The status of a number. No refusal has a number above 18: one is an unknown kind. (No TryFrom: each number has its status, 0 too.)
 #[tactic(auto, unfolding(crate::specs::Status::status_for))]
 pub fn of_number(number: u8) -> Status
     ensures { result ≡ status_for number }

@@ -36,7 +36,7 @@ impl Unsigned for u8 {
     }
 
     fn widen(self) -> u32 {
-        self as u32
+        self.into()
     }
 }
 
@@ -54,7 +54,7 @@ impl Unsigned for u16 {
     }
 
     fn widen(self) -> u32 {
-        self as u32
+        u32::from(self)
     }
 }
 
