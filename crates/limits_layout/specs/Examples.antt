@@ -8,7 +8,8 @@ use Rattle.wire.specs.Splice.{splice}
 use Rattle.cursor_limits.specs.declared.value.Xor.TheVariants as xor
 use Rattle.cursor_limits.specs.declared.value.Limits.{Limits}
 use Rattle.cursor_limits.specs.declared.value.Value.TheVariants as value
-use Rattle.limits_layout.specs.LimitsLayout.{xor_of, number_bytes, limits_bytes, limits_in, Fits}
+use Rattle.cursor_limits.specs.Value.{xor_of}
+use Rattle.limits_layout.specs.LimitsLayout.{number_bytes, limits_bytes, limits_in, Fits}
 
 -- The premises of the theorems are met.
 

@@ -1,19 +1,10 @@
 -- The cursor limits as bytes. Assumes nothing.
 use Rattle.std.specs.Prelude.{ℕ, ◌≤◌, ◌<◌, ◌≡◌, List, ◌++◌, cond, eqb, length}
-use Rattle.cursor_limits.specs.declared.value.Xor.{Xor}
-use Rattle.cursor_limits.specs.declared.value.Xor.TheVariants as xor
 use Rattle.cursor_limits.specs.declared.value.Value.{Value}
 use Rattle.cursor_limits.specs.declared.value.Value.TheVariants as value
+use Rattle.cursor_limits.specs.Value.{xor_byte, xor_of}
 use Rattle.wire.specs.Laid.{laid}
 use Rattle.wire.specs.LittleEndian.{number_at, bytes}
-
--- the XOR operation: 0 for no, any other byte for yes, written as 1
-abbrev pub xor_byte : Xor → ℕ
-xor_byte xor.None = 0
-xor_byte xor.Full = 1
-
-unfoldable pub xor_of : ℕ → Xor
-xor_of b = cond (eqb b 0) xor.None xor.Full
 
 -- whether the extension is supported, the XOR operation, width, height and port
 unfoldable pub number_bytes : ℕ → ℕ → ℕ → ℕ → ℕ → List ℕ

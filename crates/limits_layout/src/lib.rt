@@ -11,23 +11,13 @@
 
 ghost use Rattle.std.specs.Prelude.{◌≡◌};
 ghost use Rattle.wire.specs.Laid.{laid};
-ghost use Rattle.limits_layout.specs.LimitsLayout.{xor_byte, xor_of, number_bytes, limits_bytes, limits_in};
+ghost use Rattle.cursor_limits.specs.Value.{xor_byte};
+ghost use Rattle.limits_layout.specs.LimitsLayout.{number_bytes, limits_bytes, limits_in};
 
 use cursor_limits::value::{Limits, Value, Xor};
 use wire::little_endian;
 
 pub const LENGTH: usize = 8;
-
-// Of the byte of the XOR operation. A function and no From: u8 and Xor are types of other crates.
-#[tactic(auto, unfolding(crate::specs::LimitsLayout::xor_of))]
-fn xor_of(byte: u8) -> Xor
-    ensures { result ≡ xor_of byte }
-{
-    match byte {
-        0 => Xor::None,
-        _ => Xor::Full,
-    }
-}
 
 // The value in the bytes; a number whose bytes are not all there counts as 0.
 #[tactic(auto, unfolding(crate::specs::LimitsLayout::limits_in))]
@@ -38,7 +28,7 @@ pub fn read(record: &[u8]) -> Value
         return Value::NotSupported;
     }
     Value::Supported(Limits {
-        xor: xor_of(little_endian::read(record, 1)),
+        xor: little_endian::read::<u8>(record, 1).into(),
         width: little_endian::read(record, 2),
         height: little_endian::read(record, 4),
         port: little_endian::read(record, 6),
@@ -47,34 +37,33 @@ pub fn read(record: &[u8]) -> Value
 
 // Writes the numbers of the layout; where the bytes are fewer, nothing changes.
 #[tactic(auto, using(crate::proofs::Laws::LimitsLayout::numbers_written, crate::proofs::Laws::LimitsLayout::length_numbers, wire::proofs::Laws::Laid::laid_short))]
-fn write_numbers(record: &mut [u8], supported: u8, xor: u8, width: u16, height: u16, port: u16)
-    ensures { «record».new ≡ laid (number_bytes supported xor width height port) «record».old }
+fn write_numbers(record: &mut [u8], supported: u8, limits: Limits)
+    ensures { «record».new ≡ laid (number_bytes supported (xor_byte limits.xor) limits.width limits.height limits.port) «record».old }
 {
     if record.len() < LENGTH {
         return;
     }
     little_endian::write(record, 0, supported);
-    little_endian::write(record, 1, xor);
-    little_endian::write(record, 2, width);
-    little_endian::write(record, 4, height);
-    little_endian::write(record, 6, port);
+    little_endian::write(record, 1, u8::from(limits.xor));
+    little_endian::write(record, 2, limits.width);
+    little_endian::write(record, 4, limits.height);
+    little_endian::write(record, 6, limits.port);
 }
+
+// What is written where the sink doesn't support the extension.
+const NO_LIMITS: Limits = Limits {
+    xor: Xor::None,
+    width: 0,
+    height: 0,
+    port: 0,
+};
 
 // Writes the value; where the bytes are fewer than its layout's, nothing changes.
 pub fn write(record: &mut [u8], value: Value)
     ensures { «record».new ≡ laid (limits_bytes value) «record».old }
 {
     match value {
-        Value::NotSupported => write_numbers(record, 0, 0, 0, 0, 0),
-        Value::Supported(limits) => {
-            write_numbers(
-                record,
-                1,
-                u8::from(limits.xor == Xor::Full),
-                limits.width,
-                limits.height,
-                limits.port,
-            )
-        }
+        Value::NotSupported => write_numbers(record, 0, NO_LIMITS),
+        Value::Supported(limits) => write_numbers(record, 1, limits),
     }
 }

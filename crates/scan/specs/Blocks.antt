@@ -1,10 +1,10 @@
--- Places with a mark, a number that is 0 at a place without one: `marks k m` says that m may be the mark of the place k. Assumes nothing.
+-- Places that are hit: `hits k m` says that m may be the answer for the place k, and a place is hit where its answer is not 0. Assumes nothing.
 use Rattle.std.specs.Prelude.{ℕ, ◌≤◌, ◌<◌}
 
--- some place from `from` on and before `to` has a mark
-abbrev pub SomeMarked : (ℕ → ℕ → Type 0) → ℕ → ℕ → Type 0
-SomeMarked marks from to = (k : ℕ) × (m : ℕ) × (from ≤ k) × (k < to) × marks k m × (0 < m)
+-- some place from `from` on and before `to` is hit
+abbrev pub SomeHit : (ℕ → ℕ → Type 0) → ℕ → ℕ → Type 0
+SomeHit hits from to = (k : ℕ) × (m : ℕ) × (from ≤ k) × (k < to) × hits k m × (0 < m)
 
--- none of them has
-abbrev pub NoneMarked : (ℕ → ℕ → Type 0) → ℕ → ℕ → Type 0
-NoneMarked marks from to = (k : ℕ) → from ≤ k → k < to → marks k 0
+-- none of them is
+abbrev pub NoneHit : (ℕ → ℕ → Type 0) → ℕ → ℕ → Type 0
+NoneHit hits from to = (k : ℕ) → from ≤ k → k < to → hits k 0

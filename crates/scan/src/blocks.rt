@@ -1,36 +1,37 @@
-// Places that are looked at block by block: the mark of a place is what a closure answers for it, 0 where it has none.
+// Places that are looked at block by block: a place is hit where what a closure answers for it is not 0. The answer is a u8 and no bool, because
+// the loop in `any` then compiles to vector instructions.
 ghost use Rattle.std.specs.Prelude.{◌≡◌, ℕ, ◌≤◌, ◌<◌};
 ghost use Rattle.std.specs.Bool.{MatchBool};
-ghost use Rattle.scan.specs.Blocks.{SomeMarked, NoneMarked};
+ghost use Rattle.scan.specs.Blocks.{SomeHit, NoneHit};
 
-// Whether a place from `from` on and before `to` has a mark. Each is looked at, and nothing leaves the loop.
-pub(crate) fn any<F: Fn(usize) -> u8>(from: usize, to: usize, mark: &F) -> bool
-    requires { (k : ℕ) → from ≤ k → k < to → F.pre mark.now k }
-    ensures { MatchBool result (SomeMarked (F.post mark.now) from to) (NoneMarked (F.post mark.now) from to) }
+// Whether a place from `from` on and before `to` is hit. Each is looked at, and nothing leaves the loop.
+pub(crate) fn any<F: Fn(usize) -> u8>(from: usize, to: usize, hit: &F) -> bool
+    requires { (k : ℕ) → from ≤ k → k < to → F.pre hit.now k }
+    ensures { MatchBool result (SomeHit (F.post hit.now) from to) (NoneHit (F.post hit.now) from to) }
 {
     let mut high: u8 = 0;
     for k in from..to {
-        high = high.max(mark(k));
+        high = high.max(hit(k));
     }
     high != 0
 }
 
-// The end of the blocks without a mark that follow each other from `from` on, among the first n places. A block's first place is looked at
-// before the others: a block with a mark mostly begins with one.
-pub(crate) fn skip<F: Fn(usize) -> u8>(from: usize, n: usize, size: usize, mark: &F) -> usize
+// The end of the blocks without a hit that follow each other from `from` on, among the first n places. A block's first place is looked at
+// before the others: a block with a hit mostly begins with one.
+pub(crate) fn skip<F: Fn(usize) -> u8>(from: usize, n: usize, size: usize, hit: &F) -> usize
     requires room { from ≤ n }
     requires some { 0 < size }
-    requires callable { (k : ℕ) → from ≤ k → k < n → F.pre mark.now k }
+    requires callable { (k : ℕ) → from ≤ k → k < n → F.pre hit.now k }
     ensures from_on { from ≤ result }
     ensures within { result ≤ n }
-    ensures skipped { NoneMarked (F.post mark.now) from result }
+    ensures skipped { NoneHit (F.post hit.now) from result }
 {
     let mut k = from;
     while size <= n - k {
-        if mark(k) != 0 {
+        if hit(k) != 0 {
             return k;
         }
-        if any(k, k + size, mark) {
+        if any(k, k + size, hit) {
             return k;
         }
         k += size;

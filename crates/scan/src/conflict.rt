@@ -1,4 +1,5 @@
-// Whether new bytes conflict with old ones: some place is filled (its mark is not 0) and holds another byte.
+// Whether new bytes conflict with old ones: some place is filled (its mark is not 0) and holds another byte. Marks, old and new bytes are three
+// slices and no list of places: they are the host's, lent apart.
 ghost use Rattle.std.specs.Prelude.{◌≡◌, not, ◌≤◌, ◌<◌, length, eqb};
 ghost use Rattle.scan.specs.Below.{some_below};
 ghost use Rattle.scan.specs.Conflict.{conflict_at, conflict_in};

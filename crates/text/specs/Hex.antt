@@ -16,10 +16,10 @@ digit_value b =
 unfoldable pub is_digit : List ℕ → ℕ → Bool
 is_digit s k = is_some (digit_value (get_or s k 0))
 
--- the number in the first n digits, the most significant first
+-- the number in the first n digits, the most significant first; a byte that is no digit counts as 16
 unfoldable pub number : ℕ → List ℕ → ℕ
 number zero s = 0
-number (suc n) s = 16 * number n s + unwrap_or (digit_value (get_or s n 0)) 0
+number (suc n) s = 16 * number n s + unwrap_or (digit_value (get_or s n 0)) 16
 
 -- what the bytes s say as hexadecimal digits: their number, where each of them is a digit and there are at most four
 unfoldable pub read_digits : List ℕ → Option ℕ

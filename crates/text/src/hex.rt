@@ -56,7 +56,8 @@ fn capital_digit(value: u8) -> u8
     }
 }
 
-// Fills `out` with the digits of `number`, in capitals, as many as it has places; what they can't hold is left out.
+// Fills `out` with the digits of `number`, in capitals, as many as it has places; what they can't hold is left out. By index: through an adapter
+// of `iter_mut`, as `rev`, a proof knows nothing of what was written.
 pub fn write(out: &mut [u8], number: u16)
     ensures { out.new ≡ spell_digits (length out.old) number }
 {

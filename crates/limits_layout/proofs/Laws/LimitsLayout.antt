@@ -9,7 +9,8 @@ use Rattle.cursor_limits.specs.declared.value.Xor.TheVariants as xor
 use Rattle.cursor_limits.specs.declared.value.Value.{Value}
 use Rattle.cursor_limits.specs.declared.value.Value.TheVariants as value
 use Rattle.wire.specs.Laid.{laid}
-use Rattle.limits_layout.specs.LimitsLayout.{xor_byte, xor_of, number_bytes, limits_bytes, limits_in, LimitsBack}
+use Rattle.cursor_limits.specs.Value.{xor_byte, xor_of}
+use Rattle.limits_layout.specs.LimitsLayout.{number_bytes, limits_bytes, limits_in, LimitsBack}
 use Rattle.wire.specs.LittleEndian.{number_at, bytes, written}
 use Rattle.wire.proofs.Laws.Laid.{laid_short}
 use Rattle.wire.proofs.Laws.Layout.{nothing, Begins, laid_begins, before, number_in}

@@ -3,7 +3,7 @@ use Rattle.std.proofs.Common.{◌≡◌, ℕ, zero, suc, ◌≤◌, ◌<◌, Boo
 use borrow.Author.Tests.{ne_eqb}
 use Rattle.std.specs.Bool.{MatchBool}
 use Rattle.scan.specs.Below.{some_below}
-use Rattle.scan.specs.Blocks.{SomeMarked, NoneMarked}
+use Rattle.scan.specs.Blocks.{SomeHit, NoneHit}
 
 -- where p holds of none below n, it is false of each
 pub none_below : (n : ℕ) (p : ℕ → Bool) → some_below n p ≡ false → (k : ℕ) → k < n → p k ≡ false
@@ -25,15 +25,15 @@ some_at n p k l e = go (some_below n p) refl
     go true q = refl
     go false q = let f = none_below n p q k l in cc
 
--- p holds of one below n where a place among those has a mark, and its marks are what p says
-pub some_marked
-    : (n : ℕ) (p : ℕ → Bool) (marks : ℕ → ℕ → Type 0) (from to : ℕ) → to ≤ n → ((k m : ℕ) → marks k m → not (eqb m 0) ≡ p k)
-    → SomeMarked marks from to → some_below n p ≡ true
-some_marked n p marks from to l e (k, m, a, b, w, o) = some_at n p k (omega arith) (sym (e k m w) ∙ ap not (ne_eqb m 0 (λ z. omega arith)))
+-- p holds of one below n where a place among those is hit, and p says which are
+pub some_hit
+    : (n : ℕ) (p : ℕ → Bool) (hits : ℕ → ℕ → Type 0) (from to : ℕ) → to ≤ n → ((k m : ℕ) → hits k m → not (eqb m 0) ≡ p k)
+    → SomeHit hits from to → some_below n p ≡ true
+some_hit n p hits from to l e (k, m, a, b, w, o) = some_at n p k (omega arith) (sym (e k m w) ∙ ap not (ne_eqb m 0 (λ z. omega arith)))
 
--- p holds of one below n exactly where one of all those has a mark
-pub all_marks
-    : (n : ℕ) (p : ℕ → Bool) (marks : ℕ → ℕ → Type 0) (r : Bool) → ((k m : ℕ) → marks k m → not (eqb m 0) ≡ p k)
-    → MatchBool r (SomeMarked marks 0 n) (NoneMarked marks 0 n) → r ≡ some_below n p
-all_marks n p marks true e h = sym (some_marked n p marks 0 n (omega arith) e h)
-all_marks n p marks false e h = sym (below_none n p (λ k l. sym (e k 0 (h k (omega arith) l))))
+-- p holds of one below n exactly where one of all those is hit
+pub all_hits
+    : (n : ℕ) (p : ℕ → Bool) (hits : ℕ → ℕ → Type 0) (r : Bool) → ((k m : ℕ) → hits k m → not (eqb m 0) ≡ p k)
+    → MatchBool r (SomeHit hits 0 n) (NoneHit hits 0 n) → r ≡ some_below n p
+all_hits n p hits true e h = sym (some_hit n p hits 0 n (omega arith) e h)
+all_hits n p hits false e h = sym (below_none n p (λ k l. sym (e k 0 (h k (omega arith) l))))

@@ -170,7 +170,7 @@ hexdigs_digital (digit {n} {v} {b} {d} {s} ds x) =
       value = rw (number_same n (s ++ (b ∷ [])) s same, front.value, last, hexdig_value x);
     }
 
-some_of : (o : Option ℕ) → is_some o ≡ true → o ≡ Some (unwrap_or o 0)
+some_of : (o : Option ℕ) → is_some o ≡ true → o ≡ Some (unwrap_or o 16)
 some_of None e = cc
 some_of (Some d) e = refl
 
@@ -213,7 +213,7 @@ digit_of_value : (d : ℕ) → d < 16 → digit_value (digit_of d) ≡ Some d
 unfolding digit_value digit_of within all_below
 digit_of_value d h =
     let v = digit_value (digit_of d) in
-    some_of v (below_all (λ k. is_some (digit_value (digit_of k))) 16 refl d h) ∙ ap Some (computed 16 (λ k. unwrap_or (digit_value (digit_of k)) 0) (λ k. k) refl d h)
+    some_of v (below_all (λ k. is_some (digit_value (digit_of k))) 16 refl d h) ∙ ap Some (computed 16 (λ k. unwrap_or (digit_value (digit_of k)) 16) (λ k. k) refl d h)
 
 -- what is spelled are digits of the grammar
 pub spelled_hexdigs : (n v : ℕ) → v < 16 ^ n → HexDigs n (spell_digits n v) v

@@ -1,4 +1,4 @@
--- The greatest mark of all is 0 where no place has a mark. Assumes nothing.
+-- The greatest answer of all is 0 where no place is hit. Assumes nothing.
 use Rattle.std.proofs.Common.{◌≡◌, ℕ, ◌<◌, Bool, true, false, not, eqb, refl, arith}
 use Rattle.std.specs.Bool.{MatchBool}
 use borrow.Author.Tests.{eqb-true, eqb-false}

@@ -2,14 +2,14 @@
 use Rattle.std.proofs.Common.{rules, sym, arith}
 use native.Mathlib.Decide.{dec_lt}
 use Rattle.scan.specs.Conflict.{conflict_at}
-use Rattle.scan.proofs.Laws.Below.{below_none, some_marked}
+use Rattle.scan.proofs.Laws.Below.{below_none, some_hit}
 use Rattle.scan.proofs.Laws.Conflict.{empty_no_conflict, equal_no_conflict}
 use Rattle.scan.proofs.conflict.any_by_blocks.Goals as goal
 
 pub returns-then-any : goal.returns-then-any
 returns-then-any c =
     let a = c.args in
-    sym (some_marked a.n (conflict_at a.marks.now a.old.now a.new.now) _ _ _ (omega arith) (λ k m w. search rules) c.if-any.ensures)
+    sym (some_hit a.n (conflict_at a.marks.now a.old.now a.new.now) _ _ _ (omega arith) (λ k m w. search rules) c.if-any.ensures)
 
 pub loop-k-preserved : goal.loop-k-preserved
 loop-k-preserved c =
