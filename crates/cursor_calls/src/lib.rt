@@ -27,16 +27,7 @@ pub fn pointer_fresh(pointer: &mut [u8]) -> u8
 }
 
 // Writes that no picture is opened.
-#[tactic(
-    auto,
-    unfolding(
-        cursor_layout::specs::PictureLayout::picture_bytes,
-        cursor_layout::specs::PictureLayout::start_bytes,
-        cursor_picture::specs::Picture::fresh_picture,
-        cursor_fragment::specs::Start::no_start,
-        wire::specs::Number::bytes_in,
-    ),
-)]
+#[tactic(auto, unfolding(cursor_layout::specs::PictureLayout::picture_bytes, cursor_layout::specs::PictureLayout::start_bytes, cursor_picture::specs::Picture::fresh_picture, cursor_fragment::specs::Start::no_start, wire::specs::Number::bytes_in))]
 pub fn picture_fresh(picture: &mut [u8]) -> u8
     ensures answer { result ≡ fresh_answer picture_length (length picture.old) }
     ensures bytes { picture.new ≡ laid (picture_bytes fresh_picture) picture.old }

@@ -142,17 +142,7 @@ fn parse_body(packet: &[u8], starts: bool) -> Result<Fragment, Refusal>
 
 // The first refusal in 01's order, or the fragment: fewer than 15 bytes 1; RTP 3; another type 4; then the checks of a start or
 // of a continuation.
-#[tactic(
-    auto,
-    unfolding(
-        crate::specs::Parsing::parsed,
-        crate::specs::Parsing::body_checks,
-        crate::specs::Fragment::fragment_checks,
-        crate::specs::Fragment::fragment_frame,
-        cursor_packet::specs::Frame::frame_checks,
-        wire::specs::Checks::first_of,
-    ),
-)]
+#[tactic(auto, unfolding(crate::specs::Parsing::parsed, crate::specs::Parsing::body_checks, crate::specs::Fragment::fragment_checks, crate::specs::Fragment::fragment_frame, cursor_packet::specs::Frame::frame_checks, wire::specs::Checks::first_of))]
 pub fn parse(packet: &[u8]) -> Result<Fragment, Refusal>
     ensures { result ≡ parsed packet.now }
 {

@@ -5,6 +5,7 @@ ghost use Rattle.std.specs.Prelude.{◌≡◌};
 ghost use Rattle.cursor_pointer.specs.Pointer.{fresh_pointer, moved_to, moved_by, positioned};
 
 use cursor_packet::position;
+use cursor_packet::position::Position;
 use wire::sequence;
 use wire::status::{Refusal, Refused};
 
@@ -33,17 +34,17 @@ impl Pointer {
     }
 }
 
-// The pointer after a packet with this sequence number and position: set if the packet is newer, else as it was.
+// The pointer after a packet with this position: set if the packet is newer, else as it was.
 #[tactic(auto, unfolding(crate::specs::Pointer::moved_to))]
-pub fn moved(pointer: Pointer, sequence: u16, x: i16, y: i16) -> Pointer
-    ensures { result ≡ moved_to pointer sequence x y }
+pub fn moved(pointer: Pointer, position: Position) -> Pointer
+    ensures { result ≡ moved_to pointer position.sequence position.x position.y }
 {
-    if sequence::newer(pointer.known, pointer.sequence, sequence) {
+    if sequence::newer(pointer.known, pointer.sequence, position.sequence) {
         return Pointer {
             known: true,
-            sequence,
-            x,
-            y,
+            sequence: position.sequence,
+            x: position.x,
+            y: position.y,
         };
     }
     pointer
@@ -59,7 +60,7 @@ pub fn take(pointer: Pointer, packet: &[u8]) -> Result<Pointer, Refusal>
     if !sequence::newer(pointer.known, pointer.sequence, position.sequence) {
         return Err(Refusal::NotNewer);
     }
-    Ok(moved(pointer, position.sequence, position.x, position.y))
+    Ok(moved(pointer, position))
 }
 
 // The call for positions: takes type 1 only. The same answer, with the refusal's place.

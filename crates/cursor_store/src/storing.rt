@@ -133,8 +133,7 @@ pub fn moved_by(pointer: Pointer, packet: &[u8]) -> Pointer
     ensures { result ≡ pointer_after pointer packet.now }
 {
     if cursor_fragment::is_start(packet) {
-        let position = start::position(packet);
-        return cursor_pointer::moved(pointer, position.sequence, position.x, position.y);
+        return cursor_pointer::moved(pointer, start::position(packet));
     }
     pointer
 }

@@ -1,56 +1,28 @@
 -- The calls of the cursor stream by their outcomes. Assumes nothing.
-use Prim.Native.Nat.{ℕ, ◌≤◌, ◌<◌}
+use Prim.Native.Nat.{ℕ}
 use mathlib.Core.Path.{◌≡◌, refl, ap, ◌∙◌}
 use mathlib.Core.Bool.{Bool, true, false, cond}
 use mathlib.Core.List.{List}
-use borrow.Author.Tests.{le-leb, lt-leb}
 use lib.Dec.{leb}
 use lib.ListN.{length}
 use Rattle.std.specs.Prelude.{Result, Ok, Err}
-use Rattle.wire.specs.declared.status.Refusal.{Refusal}
 use Rattle.wire.specs.declared.status.Refused.{Refused}
 use Rattle.wire.specs.Numbered.{Numbered, numbered}
 use Rattle.wire.specs.Status.{Status, number_of}
 use Rattle.wire.proofs.Laws.Bool.{by_test}
 use Rattle.cursor_pointer.specs.declared.Pointer.{Pointer}
-use Rattle.cursor_picture.specs.declared.Picture.{Picture}
 use Rattle.cursor_pointer.specs.Pointer.{positioned, position_status}
 use Rattle.cursor_pointer.proofs.Laws.Pointer.{number_by_checks as position-by-checks}
 use Rattle.cursor_store.specs.declared.storing.Stored.{Stored}
-use Rattle.cursor_store.specs.Assembling.{Outcome, outcome, assembled, store_status}
-use Rattle.cursor_store.specs.Storing.{with_pointer, stored}
+use Rattle.cursor_store.specs.Assembling.{Outcome, store_status}
+use Rattle.cursor_store.specs.Storing.{stored}
 use Rattle.cursor_store.specs.Calls.{State}
 use Rattle.cursor_store.proofs.Laws.Calls.{number_by_checks as store-by-checks}
-use Rattle.cursor_store.proofs.Laws.Storing.{stored_as, stored_is, stored_with}
+use Rattle.cursor_store.proofs.Laws.Storing.{stored_as, stored_is}
 use Rattle.cursor_layout.specs.PointerLayout.{pointer_length, pointer_of}
 use Rattle.cursor_layout.specs.PictureLayout.{picture_of}
 use Rattle.host_answers.specs.Answers.{answer_of, short}
 use Rattle.cursor_calls.specs.CursorCalls.{PositionOutcome, after_position, position_answered, cursor_position, records_whole, StoreOutcome, after_store, store_answered, all_answered, cursor_store, PositionRefusalKeeps, StoreRefusalKeeps}
-
-module _ (ps packet : List ℕ) where
-  pub position_short : length ps < pointer_length → cursor_position ps packet ≡ after_position short ps
-  unfolding cursor_position
-  position_short l = simp (lt-leb pointer_length (length ps) l)
-
-  -- the call answered `b`
-  pub position_answered_lem
-      : (b : Result Pointer Refused) → pointer_length ≤ length ps → positioned (pointer_of ps) packet ≡ b → cursor_position ps packet ≡ position_answered b ps
-  unfolding cursor_position
-  position_answered_lem b h f = simp (le-leb pointer_length (length ps) h) (ap (λ (x : Result Pointer Refused). position_answered x ps) f)
-
-module _ (ps qs packet image marks : List ℕ) where
-  pub store_short : records_whole (length ps) (length qs) ≡ false → cursor_store ps qs packet image marks ≡ after_store short ps qs image marks
-  unfolding cursor_store
-  store_short e = simp e
-
-  -- the picture's part has answered `r`, and left these bytes and marks
-  pub store_answered_lem
-      : (r : Result Picture Refusal) (bytes filled : List ℕ) → records_whole (length ps) (length qs) ≡ true
-      → outcome r bytes filled ≡ assembled (picture_of qs) packet image marks
-      → cursor_store ps qs packet image marks ≡ all_answered packet (with_pointer (pointer_of ps) packet (outcome r bytes filled)) ps qs
-  unfolding cursor_store
-  store_answered_lem r bytes filled h e =
-      simp h (ap (λ (x : Outcome (Result Stored Refused)). all_answered packet x ps qs) (stored_with (pointer_of ps) (picture_of qs) packet image marks r bytes filled e))
 
 -- The number of each answer: 10 for a short record, else that of the checks.
 

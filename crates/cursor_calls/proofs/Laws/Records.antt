@@ -22,7 +22,7 @@ use Rattle.wire.proofs.Laws.Laid.{length_laid}
 use Rattle.wire.proofs.Laws.Number.{number_small}
 use Rattle.scan.specs.Empty.{filled_at}
 use Rattle.cursor_packet.specs.Position.{position_at}
-use Rattle.cursor_fragment.specs.Fragment.{is_start, fragment_as, fragment_of, data_of}
+use Rattle.cursor_fragment.specs.Fragment.{is_start, fragment_as, fragment_of}
 use Rattle.cursor_fragment.specs.Start.{start_of, no_start, start_in}
 use Rattle.cursor_fragment.specs.declared.Fragment.{Fragment}
 use Rattle.cursor_pointer.specs.declared.Pointer.{Pointer}
@@ -31,7 +31,7 @@ use Rattle.cursor_picture.specs.declared.Picture.{Picture}
 use Rattle.cursor_picture.specs.Completeness.{completeness}
 use Rattle.cursor_store.specs.Judging.{of_opened}
 use Rattle.cursor_store.specs.declared.storing.Stored.{Stored}
-use Rattle.cursor_store.specs.Assembling.{Outcome, store_status, opened_by, opened_for, image_after, marks_after, with_start, picture_after}
+use Rattle.cursor_store.specs.Assembling.{Outcome, store_status, opened_by, opened_for, with_start, picture_after}
 use Rattle.cursor_store.specs.Storing.{moves, pointer_after}
 use Rattle.cursor_store.specs.Receiver.{Call, fragment, other, packet_of, run}
 use Rattle.cursor_store.specs.Calls.{State, is_accepted, answered, kept, next, by_value}
@@ -39,7 +39,7 @@ use Rattle.cursor_store.specs.DemandThree.{Whole, total_of, Taken, Given, covere
 use Rattle.cursor_store.proofs.Laws.Storing.{pointer_start, pointer_kept, stored_as, stored_is}
 use Rattle.cursor_store.proofs.Laws.DemandThree.{demand_three}
 use Rattle.cursor_layout.specs.PointerLayout.{pointer_length, pointer_bytes, pointer_of}
-use Rattle.cursor_layout.specs.PictureLayout.{picture_length, picture_of, picture_left, PictureFits}
+use Rattle.cursor_layout.specs.PictureLayout.{picture_length, picture_of, PictureFits}
 use Rattle.cursor_layout.proofs.Laws.PointerLayout.{signed_small, pointer_reads_back, pointer_bytes_lem}
 use Rattle.cursor_layout.proofs.Laws.PictureLayout.{picture_fits, left_reads, left_length, left_bytes}
 use Rattle.host_answers.specs.declared.Yes.{Yes}

@@ -1,6 +1,6 @@
 -- The call for positions in two steps: the packet is read, and then it must be newer. Sequence numbers wrap. Assumes nothing.
 use Prim.Native.Nat.{ℕ}
-use mathlib.Core.Path.{◌≡◌, refl, sym, ap, ◌∙◌}
+use mathlib.Core.Path.{◌≡◌, refl}
 use mathlib.Core.Bool.{Bool, true, false, not, cond}
 use mathlib.Core.List.{List, [], ◌∷◌}
 use Rattle.wire.specs.Sequence.{distance, is_newer}

@@ -21,8 +21,8 @@ use Rattle.cursor_fragment.proofs.Laws.Start.{same_start_is}
 use Rattle.cursor_picture.specs.declared.Picture.{Picture}
 use Rattle.cursor_picture.proofs.Laws.Picture.{room_says}
 use Rattle.cursor_store.specs.Judging.{of_opened, start_differs, opens, judging}
-use Rattle.cursor_store.specs.Assembling.{store_status, opened_by, opened_for, cleared_for, image_after, marks_after, with_start, picture_after, assembled_as, assembled}
-use Rattle.cursor_store.specs.Storing.{pointer_after, stored}
+use Rattle.cursor_store.specs.Assembling.{store_status, opened_by, opened_for, cleared_for, image_after, marks_after, with_start, picture_after}
+use Rattle.cursor_store.specs.Storing.{pointer_after}
 use Rattle.cursor_store.specs.Receiver.{covers}
 use Rattle.cursor_store.specs.Calls.{State, is_accepted, answered, kept, next, NumberByChecks, RefusalKeeps, PictureKept, OutsideKept, FormerStaysClosed}
 use Rattle.cursor_store.proofs.Laws.Judging.{judged_room, judged_start, judged_late}

@@ -1,11 +1,10 @@
 -- The call for starts and continuations by its outcomes. Assumes nothing.
 use Prim.Native.Nat.{ℕ}
-use mathlib.Core.Path.{◌≡◌, refl, sym, ap, ◌∙◌}
+use mathlib.Core.Path.{◌≡◌, refl, ◌∙◌}
 use mathlib.Core.Bool.{Bool, true, false, cond, ◌&&◌, false≢true}
 use mathlib.Core.List.{List}
 use Rattle.std.specs.Prelude.{Result, Ok, Err}
 use Rattle.wire.specs.Status.{Status, accept, accepted, refused_at}
-use Rattle.wire.specs.declared.status.Refusal.{Refusal}
 use Rattle.wire.specs.declared.status.Refused.{Refused}
 use Rattle.cursor_fragment.specs.Fragment.{is_start, fragment_of, data_of}
 use Rattle.cursor_fragment.specs.Start.{start_position}
@@ -58,9 +57,3 @@ module _ (p : Pointer) (q : Picture) (packet image marks : List ℕ) where
       go : (s : Status) → accepted s ≡ true → stored_as s ≡ stored_as accept
       go (Ok u) k = refl
       go (Err r) k = absurd (false≢true k)
-
-  -- the picture's part has answered
-  pub stored_with : (r : Result Picture Refusal) (bytes filled : List ℕ) → outcome r bytes filled ≡ assembled q packet image marks
-      → stored p q packet image marks ≡ with_pointer p packet (outcome r bytes filled)
-  unfolding stored
-  stored_with r bytes filled e = ap (with_pointer p packet) (sym e)
