@@ -1,39 +1,56 @@
 // The calls of connection messages over lent records. Crate ashlarsilk exports each, and says there in words what a host gets.
 #![tactic(auto)]
 
-ghost use Rattle.std.specs.Prelude.{◌≡◌};
-ghost use Rattle.message_calls.specs.MessageCalls.{read_answer, read_record, message_written, message_output, number_answer};
+ghost use Rattle.std.specs.Prelude.{◌≡◌, length};
+ghost use Rattle.host_answers.specs.Answers.{answer_of, written_of, value_of, yes_of};
+ghost use Rattle.message_calls.specs.MessageCalls.{held, read_answer, read_record, message_written, message_output, number_answer};
 ghost use Rattle.message_calls.specs.MessageCalls.{port_answer, options_answer, source_answer, source_lent};
 
-use host_answers::{
-    Answer, Number, Written, Yes, accept, not_answered, not_written, of_writer, refuse,
-};
+use host_answers::{Answer, Number, Written, Yes};
 use message_reader::walk;
 use message_rules::accessors;
 use scan::bytes;
-use wire::status;
-use wire::status::Status;
+use wire::status::{Refusal, Refused, Status};
 
-// Reads a message, which is all of the lent bytes, into the record. The values are located first, so that a refused message writes nothing, and
-// go from there straight into the lent bytes.
+// That the lent bytes hold a record, or 10 where they are fewer than its layout's.
+#[tactic(auto, unfolding(crate::specs::MessageCalls::held))]
+fn check_held(record: &[u8]) -> Status
+    ensures { result ≡ held (length «record».now) }
+{
+    if record.len() < message_layout::LENGTH {
+        return Err(Refusal::NoRoom);
+    }
+    Ok(())
+}
+
+// The values are located first, so that a refused message writes nothing, and go from there straight into the lent bytes.
+#[tactic(auto, unfolding(crate::specs::MessageCalls::held, crate::specs::MessageCalls::read_answer, crate::specs::MessageCalls::read_record), using(message_reader::proofs::Laws::Answer::answered))]
+fn read_into(bytes: &[u8], record: &mut [u8]) -> Result<(), Refused>
+    ensures answer { answer_of result ≡ read_answer bytes.now «record».old }
+    ensures after { «record».new ≡ read_record bytes.now «record».old }
+{
+    check_held(record)?;
+    let mut values = walk::NONE;
+    let command = walk::locate(bytes, &mut values)?;
+    message_layout::write(record, walk::message_from(command, &values));
+    Ok(())
+}
+
+// Reads a message, which is all of the lent bytes, into the record.
 pub fn read(bytes: &[u8], record: &mut [u8]) -> Answer
     ensures answer { result ≡ read_answer bytes.now «record».old }
     ensures after { «record».new ≡ read_record bytes.now «record».old }
 {
-    if record.len() < message_layout::LENGTH {
-        return refuse(Status::NoRoom, 0);
-    }
-    let mut values = [0u64; 8];
-    let answer = walk::locate(bytes, &mut values);
-    let number = (answer % 256) as u8;
-    if number != 0 {
-        return Answer {
-            status: number,
-            place: (answer / 256) as usize,
-        };
-    }
-    message_layout::write(record, walk::message_from((answer / 256) as u8, &values));
-    accept()
+    read_into(bytes, record).into()
+}
+
+#[tactic(auto, unfolding(crate::specs::MessageCalls::held, crate::specs::MessageCalls::message_written, crate::specs::MessageCalls::message_output))]
+fn write_out(bytes: &[u8], record: &[u8], out: &mut [u8]) -> Result<usize, Refused>
+    ensures answer { written_of result ≡ message_written bytes.now «record».now out.old }
+    ensures after { out.new ≡ message_output bytes.now «record».now out.old }
+{
+    check_held(record)?;
+    message_writer::write(bytes, message_layout::read(record), out)
 }
 
 // Writes the message of a record, whose values stand in the lent bytes, to the first bytes of `out`.
@@ -41,23 +58,16 @@ pub fn write(bytes: &[u8], record: &[u8], out: &mut [u8]) -> Written
     ensures answer { result ≡ message_written bytes.now «record».now out.old }
     ensures after { out.new ≡ message_output bytes.now «record».now out.old }
 {
-    if record.len() < message_layout::LENGTH {
-        return not_written(Status::NoRoom);
-    }
-    of_writer(message_writer::write(bytes, message_layout::read(record), out))
+    write_out(bytes, record, out).into()
 }
 
-// The answer with a number of a record, or 10 where its lent bytes are fewer than its layout's.
-fn number_answer(lent: usize, value: u16) -> Number
-    ensures { result ≡ number_answer lent value }
+// A number of a record, if the lent bytes hold one.
+#[tactic(auto, unfolding(crate::specs::MessageCalls::held, crate::specs::MessageCalls::number_answer))]
+fn number_held(record: &[u8], value: u16) -> Result<u16, Refused>
+    ensures { value_of result ≡ number_answer (length «record».now) value }
 {
-    if lent < message_layout::LENGTH {
-        return Number {
-            status: status::number(Status::NoRoom),
-            value: 0,
-        };
-    }
-    Number { status: 0, value }
+    check_held(record)?;
+    Ok(value)
 }
 
 // The RTSP port of a record, whose values stand in the lent bytes.
@@ -65,7 +75,7 @@ pub fn rtsp_port(bytes: &[u8], record: &[u8]) -> Number
     ensures { result ≡ port_answer bytes.now «record».now }
 {
     let port = accessors::rtsp_port(bytes, message_layout::read(record));
-    number_answer(record.len(), port)
+    number_held(record, port).into()
 }
 
 // The option byte of a record, the first of the Security Options.
@@ -73,7 +83,23 @@ pub fn security_options(bytes: &[u8], record: &[u8]) -> Number
     ensures { result ≡ options_answer bytes.now «record».now }
 {
     let options = accessors::security_options(bytes, message_layout::read(record));
-    number_answer(record.len(), options as u16)
+    number_held(record, options.into()).into()
+}
+
+#[tactic(auto, unfolding(crate::specs::MessageCalls::held, crate::specs::MessageCalls::source_answer, crate::specs::MessageCalls::source_lent))]
+fn copy_source(bytes: &[u8], record: &[u8], id: &mut [u8]) -> Result<bool, Refused>
+    ensures answer { yes_of result ≡ source_answer bytes.now «record».now id.old }
+    ensures after { id.new ≡ source_lent bytes.now «record».now id.old }
+{
+    check_held(record)?;
+    if id.len() < 16 {
+        return Err(Refusal::NoRoom.into());
+    }
+    let source = accessors::source_id(bytes, message_layout::read(record));
+    if source.present {
+        bytes::copy(id, &source.bytes);
+    }
+    Ok(source.present)
 }
 
 // Whether a record has a Source ID; if so, it is copied to the first 16 bytes of `id`.
@@ -81,19 +107,5 @@ pub fn source_id(bytes: &[u8], record: &[u8], id: &mut [u8]) -> Yes
     ensures answer { result ≡ source_answer bytes.now «record».now id.old }
     ensures after { id.new ≡ source_lent bytes.now «record».now id.old }
 {
-    if record.len() < message_layout::LENGTH {
-        return not_answered(Status::NoRoom);
-    }
-    if id.len() < 16 {
-        return not_answered(Status::NoRoom);
-    }
-    let source = accessors::source_id(bytes, message_layout::read(record));
-    if source.present {
-        let found = source.bytes;
-        bytes::copy(id, &found);
-    }
-    Yes {
-        status: 0,
-        yes: source.present,
-    }
+    copy_source(bytes, record, id).into()
 }

@@ -1,5 +1,5 @@
 -- Records that meet the premises of the theorems, from the message of 8 bytes of `message_reader Examples`. Each is computed. Assumes nothing.
-use Rattle.std.specs.Prelude.{ℕ, ◌≤◌, ◌<◌, ◌≡◌, refl, List, length, replicate}
+use Rattle.std.specs.Prelude.{ℕ, ◌≤◌, ◌<◌, ◌≡◌, refl, List, length, replicate, Ok}
 use Rattle.std.proofs.Common.{arith}
 use Rattle.std.proofs.Math.Decide.{dec_lt}
 use Rattle.wire.specs.Below.{all_below}
@@ -13,7 +13,6 @@ use Rattle.message_rules.specs.Rules.{roles_of, role_of, lengths_of, length_in, 
 use Rattle.message_rules.specs.Record.{absent, field_of, with_field, empty_of}
 use Rattle.message_rules.proofs.Laws.Rules.{each_type}
 use Rattle.message_rules.proofs.Laws.Record.{past}
-use Rattle.message_reader.specs.declared.Answer.TheVariants as answer
 use Rattle.message_reader.specs.Reading.{header_status, tlv_at, has_needed, is_complete, last_of, tlvs_from, read_message}
 use Rattle.message_reader.specs.Examples.{handshake, handshake_record}
 use Rattle.message_layout.specs.MessageLayout.{field_bytes, field_in, message_bytes, message_in, Fits}
@@ -41,7 +40,7 @@ message_back = (omega arith, omega arith, fits, refl)
 
 -- AcceptedBack: the message that it was read from
 pub accepted_back
-    : Bytes handshake × (read_message handshake ≡ answer.Accepted handshake_record) × (64 ≤ length lent)
+    : Bytes handshake × (read_message handshake ≡ Ok handshake_record) × (64 ≤ length lent)
     × (message_in (laid (message_bytes handshake_record) lent) ≡ handshake_record)
 unfolding number_in roles_of role_of lengths_of length_in length_ok known_command field_of with_field empty_of all_below has_needed is_complete first_of
     header_status tlv_at last_of tlvs_from read_message bytes_in number_at splice laid field_bytes field_in message_bytes message_in

@@ -1,8 +1,7 @@
 -- The record of a message as bytes. Assumes nothing.
-use Rattle.std.specs.Prelude.{ℕ, ◌+◌, ◌^◌, ◌≤◌, ◌<◌, ◌≡◌, List, ◌++◌, length}
+use Rattle.std.specs.Prelude.{ℕ, ◌+◌, ◌^◌, ◌≤◌, ◌<◌, ◌≡◌, List, ◌++◌, length, Ok}
 use Rattle.message_rules.specs.declared.record.Field.{Field}
 use Rattle.message_rules.specs.declared.record.Message.{Message}
-use Rattle.message_reader.specs.declared.Answer.TheVariants as answer
 use Rattle.message_rules.specs.Record.{field_of}
 use Rattle.message_reader.specs.Reading.{read_message}
 use Rattle.wire.specs.Number.{Bytes}
@@ -57,5 +56,5 @@ MessageBack =
 -- so the record of every accepted message
 abbrev pub AcceptedBack : Type 0
 AcceptedBack =
-    (s : List ℕ) (m : Message) (xs : List ℕ) → Bytes s → read_message s ≡ answer.Accepted m → 64 ≤ length xs
+    (s : List ℕ) (m : Message) (xs : List ℕ) → Bytes s → read_message s ≡ Ok m → 64 ≤ length xs
     → message_in (laid (message_bytes m) xs) ≡ m

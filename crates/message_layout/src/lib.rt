@@ -18,63 +18,60 @@ ghost use Rattle.wire.specs.Laid.{laid};
 ghost use Rattle.message_layout.specs.MessageLayout.{field_bytes, field_in, message_bytes, message_in};
 
 use message_rules::record::{Field, Message};
-use wire::little_endian::{put_u8, put_u32, u8_at, u32_at};
+use wire::little_endian;
 
 pub const LENGTH: usize = 64;
 
 // The field in the 9 bytes from `at`.
+#[tactic(auto, unfolding(crate::specs::MessageLayout::field_in))]
 fn field_at(record: &[u8], at: usize) -> Field
     requires { at ≤ 55 }
     ensures { result ≡ field_in «record».now at }
 {
     Field {
-        present: u8_at(record, at) != 0,
-        at: u32_at(record, at + 1),
-        len: u32_at(record, at + 5),
+        present: little_endian::read::<u8>(record, at) != 0,
+        at: little_endian::read(record, at + 1),
+        len: little_endian::read(record, at + 5),
     }
 }
 
 // The record in the bytes; a number whose bytes are not all there counts as 0.
+#[tactic(auto, unfolding(crate::specs::MessageLayout::message_in))]
 pub fn read(record: &[u8]) -> Message
     ensures { result ≡ message_in «record».now }
 {
-    let friendly_name = field_at(record, 1);
-    let rtsp_port = field_at(record, 10);
-    let source_id = field_at(record, 19);
-    let security_token = field_at(record, 28);
-    let security_options = field_at(record, 37);
-    let pin_challenge = field_at(record, 46);
-    let pin_reason = field_at(record, 55);
     Message {
-        command: u8_at(record, 0),
-        friendly_name,
-        rtsp_port,
-        source_id,
-        security_token,
-        security_options,
-        pin_challenge,
-        pin_reason,
+        command: little_endian::read(record, 0),
+        friendly_name: field_at(record, 1),
+        rtsp_port: field_at(record, 10),
+        source_id: field_at(record, 19),
+        security_token: field_at(record, 28),
+        security_options: field_at(record, 37),
+        pin_challenge: field_at(record, 46),
+        pin_reason: field_at(record, 55),
     }
 }
 
 // Writes the field in the 9 bytes from `at`.
+#[tactic(auto, using(crate::proofs::Laws::MessageLayout::field_written, wire::proofs::Laws::Layout::flag_byte))]
 fn write_field(record: &mut [u8], at: usize, field: Field)
     requires { at + 9 ≤ length «record».old }
     ensures { «record».new ≡ splice at (field_bytes field) «record».old }
 {
-    put_u8(record, at, field.present as u8);
-    put_u32(record, at + 1, field.at);
-    put_u32(record, at + 5, field.len);
+    little_endian::write(record, at, field.present as u8);
+    little_endian::write(record, at + 1, field.at);
+    little_endian::write(record, at + 5, field.len);
 }
 
 // Writes the record; where the bytes are fewer than its layout's, nothing changes.
+#[tactic(auto, using(crate::proofs::Laws::MessageLayout::message_written_lem, crate::proofs::Laws::MessageLayout::length_message, wire::proofs::Laws::Laid::laid_short))]
 pub fn write(record: &mut [u8], message: Message)
     ensures { «record».new ≡ laid (message_bytes message) «record».old }
 {
     if record.len() < LENGTH {
         return;
     }
-    put_u8(record, 0, message.command);
+    little_endian::write(record, 0, message.command);
     write_field(record, 1, message.friendly_name);
     write_field(record, 10, message.rtsp_port);
     write_field(record, 19, message.source_id);

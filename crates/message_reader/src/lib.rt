@@ -7,51 +7,17 @@ mod tlv;
 pub mod walk;
 
 ghost use Rattle.std.specs.Prelude.{◌≡◌};
-ghost use Rattle.message_reader.specs.Reading.{status_at, read_message};
+ghost use Rattle.message_reader.specs.Reading.{read_message};
 
 use message_rules::record::Message;
-use wire::status;
-use wire::status::Status;
+use wire::status::Refused;
 
-// What reading gives: the message's record, or the refusal and its place.
-#[derive(Clone, Copy)]
-pub enum Answer {
-    Accepted(Message),
-    Refused { status: Status, place: usize },
-}
-
-// The status of an answer, and the place that goes with it.
-#[derive(Clone, Copy)]
-pub struct StatusAt {
-    pub status: Status,
-    pub place: usize,
-}
-
-// Those of a refusal; an accepted message has place 0.
-pub fn status_at(answer: Answer) -> StatusAt
-    ensures { result ≡ status_at answer }
-{
-    match answer {
-        Answer::Accepted(_) => StatusAt {
-            status: Status::Accepted,
-            place: 0,
-        },
-        Answer::Refused { status, place } => StatusAt { status, place },
-    }
-}
-
-// Reads a message, which is all of the lent bytes.
-pub fn read(bytes: &[u8]) -> Answer
+// Reads a message, which is all of the lent bytes: its record, or the refusal and its place.
+#[tactic(auto, using(crate::proofs::Laws::Answer::answered))]
+pub fn read(bytes: &[u8]) -> Result<Message, Refused>
     ensures { result ≡ read_message bytes.now }
 {
-    let mut values = [0u64; 8];
-    let answer = walk::locate(bytes, &mut values);
-    let number = (answer % 256) as u8;
-    if number == 0 {
-        return Answer::Accepted(walk::message_from((answer / 256) as u8, &values));
-    }
-    Answer::Refused {
-        status: status::of_number(number),
-        place: (answer / 256) as usize,
-    }
+    let mut values = walk::NONE;
+    let command = walk::locate(bytes, &mut values)?;
+    Ok(walk::message_from(command, &values))
 }

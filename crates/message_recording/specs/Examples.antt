@@ -5,7 +5,7 @@ use Rattle.wire.specs.Below.{all_below}
 use Rattle.wire.specs.Checks.{first_of}
 use Rattle.wire.specs.Number.{number_in, Bytes}
 use Rattle.wire.proofs.Laws.Below.{bytes_computed}
-use Rattle.wire.specs.declared.status.Status.TheVariants as status
+use Rattle.wire.specs.declared.status.Refusal.TheVariants as refusal
 use Rattle.message_rules.specs.Rules.{roles_of, role_of, lengths_of, length_in, length_ok, known_command}
 use Rattle.message_rules.specs.Record.{field_of, with_field, empty_of}
 use Rattle.message_reader.specs.Examples.{handshake, handshake_record}
@@ -28,7 +28,7 @@ stop_projection = 0 ∷ 0x1c ∷ 1 ∷ 2 ∷ 0 ∷ 0 ∷ 2 ∷ 0x41 ∷ 0 ∷ 3 
 pub two_messages
     : (listing (source_ready ++ stop_projection) ≡ (0, line.Message 1 33) ∷ (33, line.Message 2 28) ∷ (61, line.End) ∷ [])
     × (listing ((source_ready ++ stop_projection) ++ (0 ∷ []))
-    ≡ (0, line.Message 1 33) ∷ (33, line.Message 2 28) ∷ (61, line.Refused status.Truncated) ∷ [])
+    ≡ (0, line.Message 1 33) ∷ (33, line.Message 2 28) ∷ (61, line.Refused refusal.Truncated) ∷ [])
 unfolding source_ready stop_projection number_in roles_of role_of lengths_of length_in length_ok known_command field_of with_field empty_of all_below
     has_needed is_complete first_of read_size header_status tlv_at last_of tlvs_from read_message needed_of line_of lines_from lines_at listing
 two_messages = (refl, refl)
@@ -39,12 +39,12 @@ unfolding line_of lines_from lines_at listing
 empty = refl
 
 -- a Size below 4: `0 refused 2`
-pub size_below_header : listing (0 ∷ 3 ∷ 1 ∷ 1 ∷ []) ≡ (0, line.Refused status.WrongSize) ∷ []
+pub size_below_header : listing (0 ∷ 3 ∷ 1 ∷ 1 ∷ []) ≡ (0, line.Refused refusal.WrongSize) ∷ []
 unfolding number_in first_of read_size header_status read_message needed_of line_of lines_from lines_at listing
 size_below_header = refl
 
 -- fewer bytes than Size: `0 refused 1`
-pub size_past_the_end : listing (0 ∷ 5 ∷ 1 ∷ 1 ∷ []) ≡ (0, line.Refused status.Truncated) ∷ []
+pub size_past_the_end : listing (0 ∷ 5 ∷ 1 ∷ 1 ∷ []) ≡ (0, line.Refused refusal.Truncated) ∷ []
 unfolding number_in first_of read_size header_status read_message needed_of line_of lines_from lines_at listing
 size_past_the_end = refl
 
@@ -82,9 +82,9 @@ end = refl
 
 -- CutBySize: one byte; a Size of 3; a Size of 5 with four bytes; the message, cut off from the byte after it
 pub cut
-    : ((0 < 1) × (line_of (9 ∷ []) ≡ line.Refused status.Truncated))
-    × ((4 ≤ 4) × (size_in (0 ∷ 3 ∷ 1 ∷ 1 ∷ []) < 4) × (line_of (0 ∷ 3 ∷ 1 ∷ 1 ∷ []) ≡ line.Refused status.WrongSize))
-    × ((4 ≤ 4) × (4 < size_in (0 ∷ 5 ∷ 1 ∷ 1 ∷ [])) × (line_of (0 ∷ 5 ∷ 1 ∷ 1 ∷ []) ≡ line.Refused status.Truncated))
+    : ((0 < 1) × (line_of (9 ∷ []) ≡ line.Refused refusal.Truncated))
+    × ((4 ≤ 4) × (size_in (0 ∷ 3 ∷ 1 ∷ 1 ∷ []) < 4) × (line_of (0 ∷ 3 ∷ 1 ∷ 1 ∷ []) ≡ line.Refused refusal.WrongSize))
+    × ((4 ≤ 4) × (4 < size_in (0 ∷ 5 ∷ 1 ∷ 1 ∷ [])) × (line_of (0 ∷ 5 ∷ 1 ∷ 1 ∷ []) ≡ line.Refused refusal.Truncated))
     × ((4 ≤ size_in handshake) × (size_in handshake ≤ 9) × (line_of (handshake ++ (0 ∷ [])) ≡ shown 8 (read_message handshake)))
 unfolding number_in roles_of role_of lengths_of length_in length_ok known_command field_of with_field empty_of all_below has_needed is_complete first_of
     read_size header_status tlv_at last_of tlvs_from read_message needed_of line_of
@@ -104,7 +104,7 @@ two = ((omega arith, omega arith), refl)
 -- MessagesListed: the message twice, and a byte
 pub messages
     : AllAccepted (handshake ∷ handshake ∷ [])
-    × (listing (joined (handshake ∷ handshake ∷ []) (9 ∷ [])) ≡ (0, line.Message 3 8) ∷ (8, line.Message 3 8) ∷ (16, line.Refused status.Truncated) ∷ [])
+    × (listing (joined (handshake ∷ handshake ∷ []) (9 ∷ [])) ≡ (0, line.Message 3 8) ∷ (8, line.Message 3 8) ∷ (16, line.Refused refusal.Truncated) ∷ [])
 unfolding number_in roles_of role_of lengths_of length_in length_ok known_command field_of with_field empty_of all_below has_needed is_complete first_of
     read_size header_status tlv_at last_of tlvs_from read_message needed_of line_of lines_from lines_at listing joined
 messages = (given.one refl (given.one refl given.none), refl)

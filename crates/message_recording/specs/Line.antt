@@ -1,22 +1,20 @@
 -- A line of the listing (01, "Session listing"). Assumes nothing.
-use Rattle.std.specs.Prelude.{ℕ, List, cond, length, take, eqb}
-use Rattle.wire.specs.Status.{number_of}
-use Rattle.message_reader.specs.declared.Answer.{Answer}
-use Rattle.message_reader.specs.declared.Answer.TheVariants as answer
-use Rattle.message_reader.specs.Reading.{read_message}
+use Rattle.std.specs.Prelude.{ℕ, List, cond, length, take, eqb, Ok, Err}
+use Rattle.wire.specs.Status.{refusal_number}
+use Rattle.message_reader.specs.Reading.{Answer, read_message}
 use Rattle.message_recording.specs.Cut.{needed_of}
 use Rattle.message_recording.specs.declared.line.Line.{Line}
 use Rattle.message_recording.specs.declared.line.Line.TheVariants as line
 
 -- what is shown of a message of n bytes: its command and size, or its refusal, whose place inside the message is not shown
 abbrev pub shown : ℕ → Answer → Line
-shown n (answer.Accepted m) = line.Message m.command n
-shown n (answer.Refused st place) = line.Refused st
+shown n (Ok m) = line.Message m.command n
+shown n (Err r) = line.Refused r.refusal
 
 -- the paper's number of a line: 0 for a message and for the end, else the refusal's
 abbrev pub line_number : Line → ℕ
 line_number (line.Message c n) = 0
-line_number (line.Refused st) = number_of st
+line_number (line.Refused r) = refusal_number r
 line_number line.End = 0
 
 -- the line of the bytes s from one place on: none left is the end; else the reader's answer on those that decide it, or on all where fewer are

@@ -7,7 +7,7 @@ use Rattle.message_recording.specs.Line.{line_of}
 -- the lines after one: those from the place after a message on; none after a refusal, and none after the end
 abbrev pub lines_after : (ℕ → List ℕ → List (ℕ × Line)) → ℕ → List ℕ → Line → List (ℕ × Line)
 lines_after rest place s (line.Message c n) = rest (place + n) (drop n s)
-lines_after rest place s (line.Refused st) = []
+lines_after rest place s (line.Refused r) = []
 lines_after rest place s line.End = []
 
 -- the lines of the bytes s, which stand at `place`, at most k of them

@@ -1,9 +1,8 @@
 -- The theorems on listings, as named types, with 01's sentences. Their proofs stand in proofs/Laws. Assumes nothing.
-use Rattle.std.specs.Prelude.{ℕ, ◌+◌, ◌≤◌, ◌<◌, ◌≡◌, List, [], ◌∷◌, ◌++◌, ◌⊎◌, length, take, drop}
-use Rattle.wire.specs.declared.status.Status.{Status}
-use Rattle.wire.specs.declared.status.Status.TheVariants as status
+use Rattle.std.specs.Prelude.{ℕ, ◌+◌, ◌≤◌, ◌<◌, ◌≡◌, List, [], ◌∷◌, ◌++◌, ◌⊎◌, length, take, drop, Ok}
+use Rattle.wire.specs.declared.status.Refusal.{Refusal}
+use Rattle.wire.specs.declared.status.Refusal.TheVariants as refusal
 use Rattle.message_rules.specs.declared.record.Message.{Message}
-use Rattle.message_reader.specs.declared.Answer.TheVariants as answer
 use Rattle.message_reader.specs.Reading.{size_in, command_in, read_message}
 use Rattle.wire.specs.Number.{Bytes}
 use Rattle.message_recording.specs.declared.line.Line.{Line}
@@ -33,7 +32,7 @@ pub record Whole (s : List ℕ) (c n : ℕ) (m : Message) : Type 0 where
   pub size : size_in s ≡ n
   pub four : 4 ≤ n
   pub there : n ≤ length s
-  pub accepted : read_message (take n s) ≡ answer.Accepted m
+  pub accepted : read_message (take n s) ≡ Ok m
   pub command : m.command ≡ c
 
 unfoldable pub MessageExactly : Type 0
@@ -51,9 +50,9 @@ EndExactly = (s : List ℕ) → (line_of s ≡ line.End → s ≡ []) × (s ≡ 
 unfoldable pub CutBySize : Type 0
 CutBySize =
     (s : List ℕ) → 0 < length s
-    → (length s < 4 → line_of s ≡ line.Refused status.Truncated)
-    × (4 ≤ length s → size_in s < 4 → line_of s ≡ line.Refused status.WrongSize)
-    × (4 ≤ length s → length s < size_in s → line_of s ≡ line.Refused status.Truncated)
+    → (length s < 4 → line_of s ≡ line.Refused refusal.Truncated)
+    × (4 ≤ length s → size_in s < 4 → line_of s ≡ line.Refused refusal.WrongSize)
+    × (4 ≤ length s → length s < size_in s → line_of s ≡ line.Refused refusal.Truncated)
     × (4 ≤ size_in s → size_in s ≤ length s → line_of s ≡ shown (size_in s) (read_message (take (size_in s) s)))
 
 -- 1 exactly where bytes are left, but fewer than the header's 4, or fewer than a Size that counts them.
@@ -77,7 +76,7 @@ pub data Listed : ℕ → List ℕ → List (ℕ × Line) → Type 0 where
   -- no bytes left: the end, and nothing after it
   ended : {place : ℕ} → Listed place [] ((place, line.End) ∷ [])
   -- "It stops at the first refusal, shown with that place."
-  stopped : {place : ℕ} {s : List ℕ} {st : Status} → line_of s ≡ line.Refused st → Listed place s ((place, line.Refused st) ∷ [])
+  stopped : {place : ℕ} {s : List ℕ} {r : Refusal} → line_of s ≡ line.Refused r → Listed place s ((place, line.Refused r) ∷ [])
   -- "one line each: its place in the file, command, size"; the next line is that of the place after the message, which is a later one
   went_on
       : {place : ℕ} {s : List ℕ} {c n : ℕ} {rest : List (ℕ × Line)} → line_of s ≡ line.Message c n → 4 ≤ n → n ≤ length s
@@ -93,7 +92,7 @@ joined (m ∷ ms) t = m ++ joined ms t
 
 pub data AllAccepted : List (List ℕ) → Type 0 where
   none : AllAccepted []
-  one : {m : List ℕ} {ms : List (List ℕ)} {r : Message} → read_message m ≡ answer.Accepted r → AllAccepted ms → AllAccepted (m ∷ ms)
+  one : {m : List ℕ} {ms : List (List ℕ)} {r : Message} → read_message m ≡ Ok r → AllAccepted ms → AllAccepted (m ∷ ms)
 
 -- a line for each message, from `place` on, and then the lines of t
 unfoldable pub lines_of : ℕ → List (List ℕ) → List ℕ → List (ℕ × Line)

@@ -3,18 +3,18 @@ ghost use Rattle.std.specs.Prelude.{◌≡◌};
 ghost use Rattle.message_recording.specs.Line.{line_of};
 
 use crate::cut::needed;
-use message_reader::Answer;
-use wire::status::Status;
+use wire::status::Refusal;
 
 // What the listing shows at a place: an accepted message, what the bytes there are refused with, or that there are none.
 #[derive(Clone, Copy)]
 pub enum Line {
     Message { command: u8, size: usize },
-    Refused { status: Status },
+    Refused { refusal: Refusal },
     End,
 }
 
 // The line of the place where `bytes` begin. Bytes after the first message are not looked at.
+#[tactic(auto, unfolding(crate::specs::Line::line_of, crate::specs::Cut::needed_of), using(crate::proofs::Laws::Line::line_short, crate::proofs::Laws::Line::positive))]
 pub fn first_line(bytes: &[u8]) -> Line
     ensures { result ≡ line_of bytes.now }
 {
@@ -24,17 +24,16 @@ pub fn first_line(bytes: &[u8]) -> Line
     let size = needed(bytes);
     if bytes.len() < size {
         return Line::Refused {
-            status: Status::Truncated,
+            refusal: Refusal::Truncated,
         };
     }
-    let answer = message_reader::read(&bytes[..size]);
-    let Answer::Accepted(message) = answer else {
-        let refusal = message_reader::status_at(answer);
-        let status = refusal.status;
-        return Line::Refused { status };
-    };
-    Line::Message {
-        command: message.command,
-        size,
+    match message_reader::read(&bytes[..size]) {
+        Ok(message) => Line::Message {
+            command: message.command,
+            size,
+        },
+        Err(refused) => Line::Refused {
+            refusal: refused.refusal,
+        },
     }
 }

@@ -1,23 +1,31 @@
 -- Which TLVs a command has, and how long each may be: one table each, for reader, writer and definitions alike. Assumes nothing.
 use Rattle.std.specs.Prelude.{ℕ, ◌%◌, List, [], ◌∷◌, Bool, ◌&&◌, get_or, leb, eqb}
+use denote.Enum.Bare.{sameb}
+use Rattle.message_rules.specs.contracts.role.Role.{the_type}
+use Rattle.message_rules.specs.declared.role.Role.{Role}
+use Rattle.message_rules.specs.declared.role.Role.TheVariants as role
 
 -- What a TLV type is to a command: foreign to it, needed, or it may be absent.
-abbrev pub foreign : ℕ
-foreign = 0
+abbrev pub foreign : Role
+foreign = role.Foreign
 
-abbrev pub needed : ℕ
-needed = 1
+abbrev pub needed : Role
+needed = role.Needed
 
-abbrev pub optional : ℕ
-optional = 2
+abbrev pub optional : Role
+optional = role.Optional
+
+-- `==` on roles
+abbrev pub same_role : Role → Role → Bool
+same_role = sameb the_type
 
 -- The roles of the types in no command.
-abbrev pub no_roles : List ℕ
+abbrev pub no_roles : List Role
 no_roles = foreign ∷ foreign ∷ foreign ∷ foreign ∷ foreign ∷ foreign ∷ foreign ∷ foreign ∷ []
 
 -- 01, "Connection message", and 001 sections 2.2.1 to 2.2.6: a row for each command, a column for each TLV type: 0 Friendly Name, 1 no such
 -- type, 2 RTSP Port, 3 Source ID, 4 Security Token, 5 Security Options, 6 PIN Challenge, 7 PIN Response Reason.
-abbrev pub roles : List (List ℕ)
+abbrev pub roles : List (List Role)
 roles =
     -- 0: no such command
     no_roles ∷
@@ -34,11 +42,11 @@ roles =
     -- 6 PIN Response
     (foreign ∷ foreign ∷ foreign ∷ needed ∷ foreign ∷ foreign ∷ needed ∷ needed ∷ []) ∷ []
 
-unfoldable pub roles_of : ℕ → List ℕ
+unfoldable pub roles_of : ℕ → List Role
 roles_of c = get_or roles c no_roles
 
 -- what type t is to command c; a type or a command that the table doesn't have is foreign
-unfoldable pub role_of : ℕ → ℕ → ℕ
+unfoldable pub role_of : ℕ → ℕ → Role
 role_of c t = get_or (roles_of c) t foreign
 
 unfoldable pub known_command : ℕ → Bool

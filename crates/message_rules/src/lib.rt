@@ -3,4 +3,5 @@
 
 pub mod accessors;
 pub mod record;
+pub mod role;
 pub mod rules;

@@ -2,7 +2,9 @@
 // lent bytes. Where a value is not there, its place and length are not looked at.
 ghost use Rattle.std.specs.Prelude.{◌≡◌};
 ghost use Rattle.message_rules.specs.Record.{field_of};
-// The value of a TLV: whether it is there, and its place and length in the lent bytes.
+
+// The value of a TLV: whether it is there, and its place and length in the lent bytes. It is no Option: by `MessageBack` (crate message_layout)
+// any place and length read back, beside a false flag too.
 #[derive(Clone, Copy)]
 pub struct Field {
     pub present: bool,

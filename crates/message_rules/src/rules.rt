@@ -2,86 +2,74 @@
 ghost use Rattle.std.specs.Prelude.{◌≡◌, ◌<◌};
 ghost use Rattle.message_rules.specs.Rules.{role_of, length_in, length_ok, known_command};
 
-// What a TLV type is to a command.
-pub const FOREIGN: u8 = 0;
-
-pub const NEEDED: u8 = 1;
-
-pub const OPTIONAL: u8 = 2;
+use crate::role::Role;
 
 // Whether there is a message of this command.
+#[tactic(auto, unfolding(crate::specs::Rules::known_command))]
 pub fn known_command(command: u8) -> bool
     ensures { result ≡ known_command command }
 {
-    if command < 1 {
-        return false;
-    }
-    command <= 6
+    matches!(command, 1..=6)
 }
 
-// What a TLV type is to a command: FOREIGN, NEEDED or OPTIONAL. A type or a command that there is not is foreign. The types: 0 Friendly Name,
+// The role of a TLV type in a command. A type or a command that there is not is foreign. The types: 0 Friendly Name,
 // 2 RTSP Port, 3 Source ID, 4 Security Token, 5 Security Options, 6 PIN Challenge, 7 PIN Response Reason.
 #[tactic(auto, unfolding(crate::specs::Rules::role_of, crate::specs::Rules::roles_of))]
-pub fn role(command: u8, kind: u8) -> u8
+pub fn role(command: u8, kind: u8) -> Role
     ensures { result ≡ role_of command kind }
 {
     match command {
         // Source Ready
         1 => match kind {
-            0 => OPTIONAL,
-            2 => NEEDED,
-            3 => NEEDED,
-            _ => FOREIGN,
+            0 => Role::Optional,
+            2 => Role::Needed,
+            3 => Role::Needed,
+            _ => Role::Foreign,
         },
         // Stop Projection
         2 => match kind {
-            0 => NEEDED,
-            3 => NEEDED,
-            _ => FOREIGN,
+            0 => Role::Needed,
+            3 => Role::Needed,
+            _ => Role::Foreign,
         },
         // Security Handshake
         3 => match kind {
-            3 => OPTIONAL,
-            4 => NEEDED,
-            _ => FOREIGN,
+            3 => Role::Optional,
+            4 => Role::Needed,
+            _ => Role::Foreign,
         },
         // Session Request
         4 => match kind {
-            0 => NEEDED,
-            3 => NEEDED,
-            5 => NEEDED,
-            _ => FOREIGN,
+            0 => Role::Needed,
+            3 => Role::Needed,
+            5 => Role::Needed,
+            _ => Role::Foreign,
         },
         // PIN Challenge
         5 => match kind {
-            3 => NEEDED,
-            6 => NEEDED,
-            _ => FOREIGN,
+            3 => Role::Needed,
+            6 => Role::Needed,
+            _ => Role::Foreign,
         },
         // PIN Response
         6 => match kind {
-            3 => NEEDED,
-            6 => NEEDED,
-            7 => NEEDED,
-            _ => FOREIGN,
+            3 => Role::Needed,
+            6 => Role::Needed,
+            7 => Role::Needed,
+            _ => Role::Foreign,
         },
         // no such command
-        _ => FOREIGN,
+        _ => Role::Foreign,
     }
 }
 
 // Whether a length is one from `least` to `most`, and a multiple of `unit`.
+#[tactic(auto, unfolding(crate::specs::Rules::length_in))]
 fn within(len: usize, least: usize, most: usize, unit: usize) -> bool
     requires { 0 < unit }
     ensures { result ≡ length_in (least, most, unit) len }
 {
-    if len < least {
-        return false;
-    }
-    if most < len {
-        return false;
-    }
-    len % unit == 0
+    (least..=most).contains(&len) && len % unit == 0
 }
 
 // Whether a value of this type may have this length.

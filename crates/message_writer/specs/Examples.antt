@@ -1,19 +1,17 @@
 -- Records that meet the premises of the theorems, from the message of 8 bytes of `message_reader Examples`. Each is computed. Assumes nothing.
-use Rattle.std.specs.Prelude.{ℕ, ◌+◌, ◌≤◌, ◌<◌, ◌≡◌, refl, List, [], ◌∷◌, ◌++◌, true, false, length, take, replicate}
+use Rattle.std.specs.Prelude.{ℕ, ◌+◌, ◌≤◌, ◌<◌, ◌≡◌, refl, List, [], ◌∷◌, ◌++◌, true, false, length, take, replicate, Ok}
 use Rattle.std.proofs.Common.{arith}
 use Rattle.wire.specs.Below.{all_below}
 use Rattle.wire.specs.Checks.{first_of}
 use Rattle.wire.specs.Number.{number_in, bytes_in, Bytes}
 use Rattle.wire.specs.Numbered.{numbered}
-use Rattle.wire.specs.declared.written.Written.TheVariants as written
 use Rattle.wire.proofs.Laws.Below.{bytes_computed}
 use Rattle.wire.proofs.Laws.Bool.{not_both}
 use Rattle.message_rules.specs.declared.record.Message.{Message}
-use Rattle.message_rules.specs.Rules.{foreign, roles_of, role_of, lengths_of, length_in, length_ok, known_command}
+use Rattle.message_rules.specs.Rules.{foreign, needed, roles_of, role_of, lengths_of, length_in, length_ok, known_command}
 use Rattle.message_rules.specs.Record.{absent, field_of, with_field, empty_of, tlv_size, size_to}
-use Rattle.message_rules.proofs.Laws.Rules.{each_type}
+use Rattle.message_rules.proofs.Laws.Rules.{needed_own, each_type}
 use Rattle.message_rules.proofs.Laws.Record.{field_type}
-use Rattle.message_reader.specs.declared.Answer.TheVariants as answer
 use Rattle.message_reader.specs.Reading.{header_status, tlv_at, has_needed, is_complete, last_of, tlvs_from, read_message}
 use Rattle.message_reader.specs.Examples.{there, record_of, handshake, handshake_record, complete}
 use Rattle.message_writer.specs.Writing.{field_ok, writable, body_to, message_of, write_answer, output}
@@ -74,7 +72,7 @@ can_be_written (given.outside t p h) =
 can_be_written (given.value_length t p e) =
     only_token (λ u. length_ok u (field_of handshake_record u).len ≡ false → ⊥) (λ f. not_both true refl f) t p e
 can_be_written (given.no_command e) = not_both true refl e
-can_be_written (given.foreign_tlv t p e) = only_token (λ u. role_of 3 u ≡ foreign → ⊥) (λ f. omega arith) t p e
+can_be_written (given.foreign_tlv t p e) = only_token (λ u. role_of 3 u ≡ foreign → ⊥) (needed_own needed refl) t p e
 can_be_written (given.absent_tlv t p e) = not_both (field_of handshake_record t).present (complete t e) p
 can_be_written (given.too_long h) = omega arith
 
@@ -85,7 +83,7 @@ pub no_room
 unfolding roles_of role_of lengths_of length_in length_ok known_command field_of tlv_size size_to all_below field_ok writable write_answer
 no_room = (can_be_written, omega arith, refl)
 
-pub wrote : (size_to handshake_record 8 ≤ 9) × (write_answer handshake handshake_record (replicate 9 5) ≡ written.Wrote 8)
+pub wrote : (size_to handshake_record 8 ≤ 9) × (write_answer handshake handshake_record (replicate 9 5) ≡ Ok 8)
 unfolding roles_of role_of lengths_of length_in length_ok known_command field_of tlv_size size_to all_below field_ok writable write_answer
 wrote = (omega arith, refl)
 
@@ -93,7 +91,7 @@ wrote = (omega arith, refl)
 pub rest_kept
     : ((numbered (write_answer handshake handshake_record (replicate 7 5))).number ≡ 0 → ⊥)
     × (output handshake handshake_record (replicate 7 5) ≡ replicate 7 5)
-    × (write_answer handshake handshake_record (replicate 9 5) ≡ written.Wrote 8)
+    × (write_answer handshake handshake_record (replicate 9 5) ≡ Ok 8)
     × (output handshake handshake_record (replicate 9 5) ≡ handshake ++ (5 ∷ []))
 unfolding roles_of role_of lengths_of length_in length_ok known_command field_of tlv_size size_to all_below field_ok writable write_answer bytes_in
     body_to message_of output
@@ -101,8 +99,8 @@ rest_kept = (λ e. omega arith, refl, refl, refl)
 
 -- ReadsBack: so what is written reads back
 pub reads_back
-    : (write_answer handshake handshake_record (replicate 9 5) ≡ written.Wrote 8)
-    × (read_message (take 8 (output handshake handshake_record (replicate 9 5))) ≡ answer.Accepted handshake_record)
+    : (write_answer handshake handshake_record (replicate 9 5) ≡ Ok 8)
+    × (read_message (take 8 (output handshake handshake_record (replicate 9 5))) ≡ Ok handshake_record)
 unfolding roles_of role_of lengths_of length_in length_ok known_command field_of tlv_size size_to all_below field_ok writable write_answer bytes_in
     body_to message_of output number_in with_field empty_of has_needed is_complete first_of header_status tlv_at last_of tlvs_from read_message
 reads_back = (refl, refl)
@@ -129,8 +127,8 @@ rises t u h p q =
     t p h
 
 pub writes_back
-    : Bytes rising × (read_message rising ≡ answer.Accepted rising_record) × (length rising ≤ 27)
-    × (write_answer rising rising_record (replicate 27 5) ≡ written.Wrote 27) × Rising rising_record
+    : Bytes rising × (read_message rising ≡ Ok rising_record) × (length rising ≤ 27)
+    × (write_answer rising rising_record (replicate 27 5) ≡ Ok 27) × Rising rising_record
     × (take 27 (output rising rising_record (replicate 27 5)) ≡ rising)
 unfolding roles_of role_of lengths_of length_in length_ok known_command field_of tlv_size size_to all_below field_ok writable write_answer bytes_in
     body_to message_of output number_in with_field empty_of has_needed is_complete first_of header_status tlv_at last_of tlvs_from read_message
@@ -144,8 +142,8 @@ abbrev falling_record : Message
 falling_record = record_of 3 absent (there 11 16) (there 7 1)
 
 pub writes_otherwise
-    : Bytes falling × (read_message falling ≡ answer.Accepted falling_record) × (length falling ≤ 27)
-    × (write_answer falling falling_record (replicate 27 5) ≡ written.Wrote 27) × (Rising falling_record → ⊥)
+    : Bytes falling × (read_message falling ≡ Ok falling_record) × (length falling ≤ 27)
+    × (write_answer falling falling_record (replicate 27 5) ≡ Ok 27) × (Rising falling_record → ⊥)
     × (take 27 (output falling falling_record (replicate 27 5)) ≡ rising)
 unfolding roles_of role_of lengths_of length_in length_ok known_command field_of tlv_size size_to all_below field_ok writable write_answer bytes_in
     body_to message_of output Rising number_in with_field empty_of has_needed is_complete first_of header_status tlv_at last_of tlvs_from read_message

@@ -1,15 +1,14 @@
 -- The theorems on writing, and on reading what was written, as named types, with 01's sentences. Their proofs stand in proofs/Laws. Assumes
 -- nothing.
-use Rattle.std.specs.Prelude.{ℕ, ◌+◌, ◌≤◌, ◌<◌, ◌≡◌, List, true, false, ◌⊎◌, length, take, drop}
+use Rattle.std.specs.Prelude.{ℕ, ◌+◌, ◌≤◌, ◌<◌, ◌≡◌, List, true, false, ◌⊎◌, length, take, drop, Ok}
 use Rattle.wire.specs.Numbered.{refused_as, numbered}
-use Rattle.wire.specs.declared.status.Status.TheVariants as status
+use Rattle.wire.specs.Status.{refused_at}
+use Rattle.wire.specs.declared.status.Refusal.TheVariants as refusal
 use Rattle.message_rules.specs.declared.record.Message.{Message}
-use Rattle.message_reader.specs.declared.Answer.TheVariants as answer
 use Rattle.message_rules.specs.Rules.{role_of, foreign, needed, length_ok, known_command}
 use Rattle.message_rules.specs.Record.{field_of, value_of, size_to}
 use Rattle.message_reader.specs.Reading.{read_message}
 use Rattle.wire.specs.Number.{Bytes}
-use Rattle.wire.specs.declared.written.Written.TheVariants as written
 use Rattle.message_writer.specs.Writing.{write_answer, output}
 
 -- ---- The writer's numbers, exactly under their conditions
@@ -31,9 +30,9 @@ pub data Unwritable (n : ℕ) (m : Message) : Type 0 where
 -- "Any writer: 18, then 10": 18 exactly for a record that can't be written; else 10 exactly where the output is shorter than needed; else
 -- the number of bytes written. There is no other answer.
 pub record WriterAnswers (s : List ℕ) (m : Message) (out : List ℕ) : Type 0 where
-  pub unwritable : Unwritable (length s) m → numbered (write_answer s m out) ≡ refused_as status.NotWritable 0
-  pub no_room : (Unwritable (length s) m → ⊥) → length out < size_to m 8 → numbered (write_answer s m out) ≡ refused_as status.NoRoom 0
-  pub wrote : (Unwritable (length s) m → ⊥) → size_to m 8 ≤ length out → write_answer s m out ≡ written.Wrote (size_to m 8)
+  pub unwritable : Unwritable (length s) m → numbered (write_answer s m out) ≡ refused_as (refused_at refusal.NotWritable 0)
+  pub no_room : (Unwritable (length s) m → ⊥) → length out < size_to m 8 → numbered (write_answer s m out) ≡ refused_as (refused_at refusal.NoRoom 0)
+  pub wrote : (Unwritable (length s) m → ⊥) → size_to m 8 ≤ length out → write_answer s m out ≡ Ok (size_to m 8)
   pub one_of : Unwritable (length s) m ⊎ (Unwritable (length s) m → ⊥)
 
 unfoldable pub WrittenExactly : Type 0
@@ -44,7 +43,7 @@ unfoldable pub RestKept : Type 0
 RestKept =
     (s : List ℕ) (m : Message) (out : List ℕ)
     → (((numbered (write_answer s m out)).number ≡ 0 → ⊥) → output s m out ≡ out)
-    × ((n : ℕ) → write_answer s m out ≡ written.Wrote n → (length (output s m out) ≡ length out) × (drop n (output s m out) ≡ drop n out))
+    × ((n : ℕ) → write_answer s m out ≡ Ok n → (length (output s m out) ≡ length out) × (drop n (output s m out) ≡ drop n out))
 
 -- ---- What is written reads back
 
@@ -57,8 +56,8 @@ pub record SameMessage (s : List ℕ) (m : Message) (r : List ℕ) (n : Message)
 -- "What we write for a record reads back with the same kind and values", for any lent bytes and any record that the writer takes.
 unfoldable pub ReadsBack : Type 0
 ReadsBack =
-    (s : List ℕ) (m : Message) (out : List ℕ) (n : ℕ) → write_answer s m out ≡ written.Wrote n
-    → (r : Message) × (read_message (take n (output s m out)) ≡ answer.Accepted r) × SameMessage s m (take n (output s m out)) r
+    (s : List ℕ) (m : Message) (out : List ℕ) (n : ℕ) → write_answer s m out ≡ Ok n
+    → (r : Message) × (read_message (take n (output s m out)) ≡ Ok r) × SameMessage s m (take n (output s m out)) r
 
 -- ---- What was read is written back
 
@@ -70,7 +69,7 @@ Rising m = (t u : ℕ) → t < u → (field_of m t).present ≡ true → (field_
 -- every such record, and what it writes is as long as the message.
 unfoldable pub WritesBack : Type 0
 WritesBack =
-    (s : List ℕ) (m : Message) (out : List ℕ) → Bytes s → read_message s ≡ answer.Accepted m → length s ≤ length out
-    → (write_answer s m out ≡ written.Wrote (length s))
+    (s : List ℕ) (m : Message) (out : List ℕ) → Bytes s → read_message s ≡ Ok m → length s ≤ length out
+    → (write_answer s m out ≡ Ok (length s))
     × (Rising m → take (length s) (output s m out) ≡ s)
     × (take (length s) (output s m out) ≡ s → Rising m)

@@ -10,16 +10,13 @@ use lib.ListN.{length, take, drop, length-append, take-append-drop}
 use lib.Seq.{take-append-le, take_all, length-take-le}
 use lib.Dec.{eqb}
 use Rattle.wire.specs.Number.{Bytes}
-use Rattle.wire.specs.declared.status.Status.{Status}
-use Rattle.wire.specs.declared.status.Status.TheVariants as status
+use Rattle.std.specs.Prelude.{Result, Ok, Err}
+use Rattle.wire.specs.declared.status.Refusal.{Refusal as Reason}
+use Rattle.wire.specs.declared.status.Refusal.TheVariants as refusal
 use Rattle.wire.proofs.Laws.Bool.{impossible, by_test}
 use Rattle.wire.proofs.Laws.Number.{number_small}
 use Rattle.message_rules.specs.declared.record.Message.{Message}
-use Rattle.message_reader.specs.declared.Answer.{Answer}
-use Rattle.message_reader.specs.declared.Answer.TheVariants as answer
-use Rattle.message_reader.specs.declared.header.Size.{Size}
-use Rattle.message_reader.specs.declared.header.Size.TheVariants as size
-use Rattle.message_reader.specs.Reading.{size_in, read_size, read_message}
+use Rattle.message_reader.specs.Reading.{Answer, size_in, read_size, read_message}
 use Rattle.message_reader.specs.Theorems.{Refusal, AcceptedExactly}
 use Rattle.message_reader.specs.Theorems as given
 use Rattle.message_reader.proofs.Laws.Header.{size_declared, size_refused, size_there, size_below, size_append, size_take}
@@ -37,9 +34,9 @@ pub needed_size : (s : List ℕ) → 4 ≤ length s → 4 ≤ size_in s → need
 unfolding needed_of
 needed_size s h l = ap bytes_for (size_there s h l)
 
-need : (s : List ℕ) (x : Size) → read_size s ≡ x → (4 ≤ bytes_for x) × (Bytes s → bytes_for x ≤ 65535)
-need s (size.Declared n) e = let d = size_declared s n e in (d.counted, λ b. let l = d.size in omega (arith, number_small true 2 0 s b))
-need s (size.Refused st) e = (omega arith, λ b. omega arith)
+need : (s : List ℕ) (x : Result ℕ Reason) → read_size s ≡ x → (4 ≤ bytes_for x) × (Bytes s → bytes_for x ≤ 65535)
+need s (Ok n) e = let d = size_declared s n e in (d.counted, λ b. let l = d.size in omega (arith, number_small true 2 0 s b))
+need s (Err r) e = (omega arith, λ b. omega arith)
 
 pub needed_four : (s : List ℕ) → 4 ≤ needed_of s
 unfolding needed_of
@@ -76,7 +73,7 @@ front_decides s n h = elim (dec_lt n (length s)) [
 -- what a line says
 abbrev OfLine : List ℕ → Line → Type 0
 OfLine s (line.Message c n) = (m : Message) × Whole s c n m
-OfLine s (line.Refused st) = 0 < length s
+OfLine s (line.Refused r) = 0 < length s
 OfLine s line.End = s ≡ []
 
 there : (s : List ℕ) (n : ℕ) → n ≡ length (take n s) → n ≤ length s
@@ -86,21 +83,21 @@ there s n e = elim (dec_lt (length s) n) [
 ]
 
 -- an accepted message stands there whole
-whole : (s : List ℕ) (m : Message) (x : Size) → read_size s ≡ x → read_message (take (bytes_for x) s) ≡ answer.Accepted m → Whole s m.command (bytes_for x) m
+whole : (s : List ℕ) (m : Message) (x : Result ℕ Reason) → read_size s ≡ x → read_message (take (bytes_for x) s) ≡ Ok m → Whole s m.command (bytes_for x) m
 unfolding AcceptedExactly
-whole s m (size.Declared n) e f =
+whole s m (Ok n) e f =
     let d = size_declared s n e in
     let t = size_declared (take n s) n (size_take s n d.counted ∙ e) in
     let h = ((accepted_exactly (take n s) m).0 f).headed in
     record { size = sym d.size; four = d.counted; there = there s n (t.size ∙ h.size); accepted = f; command = refl }
-whole s m (size.Refused st) e f =
-    let no = (size_refused (take 4 s) st (size_take s 4 (omega arith) ∙ e)).1 ∙ f in
+whole s m (Err r) e f =
+    let no = (size_refused (take 4 s) r (size_take s 4 (omega arith) ∙ e)).1 ∙ f in
     impossible (cc)
 
 of_shown : (s : List ℕ) → 0 < length s → (a : Answer) → read_message (take (needed_of s) s) ≡ a → OfLine s (shown (needed_of s) a)
 unfolding needed_of
-of_shown s h (answer.Accepted m) e = (m, whole s m (read_size s) refl e)
-of_shown s h (answer.Refused st place) e = h
+of_shown s h (Ok m) e = (m, whole s m (read_size s) refl e)
+of_shown s h (Err r) e = h
 
 pub positive : (n : ℕ) → (n ≡ 0 → ⊥) → 0 < n
 positive zero h = absurd (h refl)
@@ -135,26 +132,26 @@ end_exactly s = (λ e. subst (OfLine s) e (of_line s), λ e. rw e)
 -- ---- cut by Size
 
 -- fewer bytes than are needed are refused
-pub line_short : (s : List ℕ) → 0 < length s → length s < needed_of s → line_of s ≡ line.Refused status.Truncated
+pub line_short : (s : List ℕ) → 0 < length s → length s < needed_of s → line_of s ≡ line.Refused refusal.Truncated
 unfolding needed_of
 line_short s h l =
-    line_of_lem s h ∙ rw (take_all (needed_of s) s (omega arith), refused s status.Truncated 0 (fewer (read_size s) refl l))
+    line_of_lem s h ∙ rw (take_all (needed_of s) s (omega arith), refused s refusal.Truncated 0 (fewer (read_size s) refl l))
   where
-    fewer : (x : Size) → read_size s ≡ x → length s < bytes_for x → Refusal s status.Truncated 0
-    fewer (size.Declared n) e f = let d = size_declared s n e in given.before_size d.four (let a = d.size in let b = d.counted in omega arith) (let a = d.size in omega arith)
-    fewer (size.Refused st) e f = given.before_header f
+    fewer : (x : Result ℕ Reason) → read_size s ≡ x → length s < bytes_for x → Refusal s refusal.Truncated 0
+    fewer (Ok n) e f = let d = size_declared s n e in given.before_size d.four (let a = d.size in let b = d.counted in omega arith) (let a = d.size in omega arith)
+    fewer (Err r) e f = given.before_header f
 
 -- a Size that is refused
-line_refused : (s : List ℕ) → 0 < length s → (st : Status) → read_size s ≡ size.Refused st → line_of s ≡ line.Refused st
+line_refused : (s : List ℕ) → 0 < length s → (r : Reason) → read_size s ≡ Err r → line_of s ≡ line.Refused r
 unfolding needed_of
-line_refused s h st e =
-    line_of_lem s h ∙ rw (e, sym (size_refused (take 4 s) st (size_take s 4 (omega arith) ∙ e)).1)
+line_refused s h r e =
+    line_of_lem s h ∙ rw (e, sym (size_refused (take 4 s) r (size_take s 4 (omega arith) ∙ e)).1)
 
 pub cut_by_size : CutBySize
 unfolding CutBySize
 cut_by_size s h = (
   λ f. line_short s h (let n = needed_four s in omega arith),
-  λ f b. line_refused s h status.WrongSize (size_below s f b),
+  λ f b. line_refused s h refusal.WrongSize (size_below s f b),
   λ f b. line_short s h (let e = needed_size s f (omega arith) in omega arith),
   λ f a. line_of_lem s h ∙ rw (needed_size s (omega arith) f),
 )

@@ -7,11 +7,10 @@ use native.Mathlib.Omega.{arith}
 use native.Mathlib.Decide.{dec_lt}
 use lib.ListN.{length, take}
 use lib.Seq.{length-take-le}
-use Rattle.wire.specs.Status.{number_of}
-use Rattle.wire.specs.declared.status.Status.{Status}
-use Rattle.message_reader.specs.declared.Answer.{Answer}
-use Rattle.message_reader.specs.declared.Answer.TheVariants as answer
-use Rattle.message_reader.specs.Reading.{size_in, read_message}
+use Rattle.std.specs.Prelude.{Ok, Err}
+use Rattle.wire.specs.Status.{refusal_number}
+use Rattle.wire.specs.declared.status.Refusal.{Refusal as Reason}
+use Rattle.message_reader.specs.Reading.{Answer, size_in, read_message}
 use Rattle.message_reader.specs.Theorems.{Refusal}
 use Rattle.message_reader.specs.Theorems as given
 use Rattle.message_reader.proofs.Laws.Header.{size_declared, size_there, size_take}
@@ -21,24 +20,24 @@ use Rattle.message_recording.specs.Theorems.{EndExactly, CutBySize, CutShort, On
 use Rattle.message_recording.proofs.Laws.Line.{nothing, end_exactly, cut_by_size}
 
 -- a message whose Size is its length is refused with neither
-sized_number : (t : List ℕ) → 4 ≤ length t → size_in t ≡ length t → (st : Status) (place : ℕ) → Refusal t st place → 3 ≤ number_of st
-sized_number t f e st place (given.before_header h) = absurd (let no : ⊥ = omega arith in no)
-sized_number t f e st place (given.before_size a b h) = absurd (let no : ⊥ = omega arith in no)
-sized_number t f e st place (given.below_header a h) = absurd (let no : ⊥ = omega arith in no)
-sized_number t f e st place (given.left_over b h) = absurd (let no : ⊥ = omega arith in no)
-sized_number t f e st place (given.version a b h) = omega arith
-sized_number t f e st place (given.command a b v h) = omega arith
-sized_number t f e st place (given.tlv {m = m} h r a x) = let n = fault_number t place m st x in omega arith
-sized_number t f e st place (given.missing u h r n g) = omega arith
+sized_number : (t : List ℕ) → 4 ≤ length t → size_in t ≡ length t → (r : Reason) (place : ℕ) → Refusal t r place → 3 ≤ refusal_number r
+sized_number t f e x place (given.before_header h) = absurd (let no : ⊥ = omega arith in no)
+sized_number t f e x place (given.before_size a b h) = absurd (let no : ⊥ = omega arith in no)
+sized_number t f e x place (given.below_header a h) = absurd (let no : ⊥ = omega arith in no)
+sized_number t f e x place (given.left_over b h) = absurd (let no : ⊥ = omega arith in no)
+sized_number t f e x place (given.version a b h) = omega arith
+sized_number t f e x place (given.command a b v h) = omega arith
+sized_number t f e x place (given.tlv {m = m} h r a y) = let n = fault_number t place m x y in omega arith
+sized_number t f e x place (given.missing u h r n g) = omega arith
 
 -- so what is shown of it is neither
 abbrev Other : ℕ → Type 0
 Other n = (n ≡ 1 → ⊥) × (n ≡ 2 → ⊥)
 
 shown_number : (t : List ℕ) → 4 ≤ length t → size_in t ≡ length t → (n : ℕ) (a : Answer) → read_message t ≡ a → Other (line_number (shown n a))
-shown_number t f e n (answer.Accepted m) r = (λ z. omega arith, λ z. omega arith)
-shown_number t f e n (answer.Refused st place) r =
-    let l = sized_number t f e st place (refusal_of t st place r) in
+shown_number t f e n (Ok m) r = (λ z. omega arith, λ z. omega arith)
+shown_number t f e n (Err x) r =
+    let l = sized_number t f e x.refusal x.place (refusal_of t x.refusal x.place r) in
     (λ z. omega arith, λ z. omega arith)
 
 module _ (s : List ℕ) where

@@ -6,7 +6,7 @@ use native.Mathlib.Omega.{arith}
 use lib.ListN.{length, drop, length-append, length-drop}
 use lib.Seq.{drop-append_seam, take-length}
 use Rattle.message_rules.specs.declared.record.Message.{Message}
-use Rattle.message_reader.specs.declared.Answer.TheVariants as answer
+use Rattle.std.specs.Prelude.{Ok}
 use Rattle.message_reader.specs.Reading.{command_in, read_message}
 use Rattle.message_reader.specs.Theorems.{AcceptedExactly, AcceptedWellFormed}
 use Rattle.message_reader.proofs.Laws.Reading.{accepted_exactly}
@@ -36,7 +36,7 @@ listed_after k place s (line.Message c n) e h go =
     let w = message_size s c n e in
     let left = length-drop n s in
     given.went_on e w.0 w.1 (go (place + n) (drop n s) (omega (arith, w.0, w.1, left)))
-listed_after k place s (line.Refused st) e h go = given.stopped e
+listed_after k place s (line.Refused x) e h go = given.stopped e
 listed_after k place s line.End e h go = rw ((end_exactly s).0 e) given.ended
 
 listed_from : (k place : ℕ) (s : List ℕ) → length s < k → Listed place s (lines_from k place s)
@@ -58,7 +58,7 @@ same_after k j place s (line.Message c n) e h l go =
     let w = message_size s c n e in
     let left = length-drop n s in
     go (place + n) (drop n s) (omega (arith, w.0, w.1, left)) (omega (arith, w.0, w.1, left))
-same_after k j place s (line.Refused st) e h l go = refl
+same_after k j place s (line.Refused x) e h l go = refl
 same_after k j place s line.End e h l go = refl
 
 -- more turns than bytes: how many does not matter
@@ -72,7 +72,7 @@ same_lines (suc k) (suc j) place s h l =
 
 -- an accepted message, whatever follows it
 accepted_line
-    : (m t : List ℕ) (r : Message) → read_message m ≡ answer.Accepted r
+    : (m t : List ℕ) (r : Message) → read_message m ≡ Ok r
     → (4 ≤ length m) × (line_of (m ++ t) ≡ line.Message (command_in m) (length m))
 unfolding AcceptedExactly AcceptedWellFormed MessageExactly ReadSoFarDecides
 accepted_line m t r e =
@@ -87,7 +87,7 @@ accepted_line m t r e =
     (four, read_so_far_decides m t need ∙ alone)
 
 lines_message
-    : (m t : List ℕ) (r : Message) (place : ℕ) → read_message m ≡ answer.Accepted r
+    : (m t : List ℕ) (r : Message) (place : ℕ) → read_message m ≡ Ok r
     → lines_at place (m ++ t) ≡ (place, line.Message (command_in m) (length m)) ∷ lines_at (place + length m) t
 unfolding lines_at lines_from
 lines_message m t r place e =

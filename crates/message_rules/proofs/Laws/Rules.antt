@@ -2,16 +2,34 @@
 use Prim.Native.Nat.{ℕ, zero, suc, ◌%◌, ◌≤◌, ◌<◌}
 use mathlib.Core.Path.{◌≡◌, refl, sym, ap, ◌∙◌}
 use mathlib.Core.List.{List}
-use mathlib.Core.Bool.{true, ◌&&◌, ◌||◌}
+use mathlib.Core.Bool.{true, false, ◌&&◌}
 use native.Mathlib.Omega.{arith}
 use native.Mathlib.Decide.{dec_lt}
-use borrow.Author.Tests.{leb-true, eqb-true, ne_eqb}
+use borrow.Author.Tests.{leb-true}
 use lib.Dec.{leb, eqb}
 use lib.ListN.{length, get_or, get_or-eq_default}
-use Rattle.message_rules.specs.Rules.{foreign, no_roles, roles_of, role_of, no_lengths, lengths_of, length_in, length_ok}
-use Rattle.wire.specs.Below.{all_below}
-use Rattle.wire.proofs.Laws.Below.{below_all}
+use denote.Enum.Bare.{same_true, same_false, true_same, false_same}
+use Rattle.message_rules.specs.contracts.role.Role.{the_type}
+use Rattle.message_rules.specs.declared.role.Role.{Role}
+use Rattle.message_rules.specs.Rules.{foreign, needed, same_role, no_roles, roles_of, role_of, lengths_of, length_in, length_ok}
 use Rattle.wire.proofs.Laws.Bool.{both}
+
+-- `==` on roles tells whether two roles are one
+pub same_role_true : (a b : Role) → same_role a b ≡ true → a ≡ b
+same_role_true a b = same_true the_type tt a b
+
+pub same_role_false : (a b : Role) → same_role a b ≡ false → a ≡ b → ⊥
+same_role_false a b = same_false the_type a b
+
+pub true_same_role : (a b : Role) → a ≡ b → same_role a b ≡ true
+true_same_role a b = true_same the_type a b
+
+pub false_same_role : (a b : Role) → (a ≡ b → ⊥) → same_role a b ≡ false
+false_same_role a b = false_same the_type tt a b
+
+-- a needed type is not foreign
+pub needed_own : (r : Role) → r ≡ needed → r ≡ foreign → ⊥
+needed_own r e f = same_role_false needed foreign refl (sym e ∙ f)
 
 -- what holds of each column of the tables
 pub each_type
@@ -29,7 +47,7 @@ each_type P z a b d e f g i (suc (suc (suc (suc (suc (suc (suc (suc t)))))))) h 
 
 -- what holds of every row of the table, and of no command, holds of every command
 rows
-    : (P : List ℕ → Type 0) → P no_roles → P (roles_of 1) → P (roles_of 2) → P (roles_of 3) → P (roles_of 4) → P (roles_of 5) → P (roles_of 6)
+    : (P : List Role → Type 0) → P no_roles → P (roles_of 1) → P (roles_of 2) → P (roles_of 3) → P (roles_of 4) → P (roles_of 5) → P (roles_of 6)
     → (c : ℕ) → P (roles_of c)
 unfolding roles_of
 rows P z a b d e f g zero = z
@@ -41,47 +59,18 @@ rows P z a b d e f g (suc (suc (suc (suc (suc zero))))) = f
 rows P z a b d e f g (suc (suc (suc (suc (suc (suc zero)))))) = g
 rows P z a b d e f g (suc (suc (suc (suc (suc (suc (suc c))))))) = z
 
-pub no_command : (c : ℕ) → (c ≡ 1 → ⊥) → (c ≡ 2 → ⊥) → (c ≡ 3 → ⊥) → (c ≡ 4 → ⊥) → (c ≡ 5 → ⊥) → (c ≡ 6 → ⊥) → roles_of c ≡ no_roles
-unfolding roles_of
-no_command zero a b d e f g = refl
-no_command (suc zero) a b d e f g = absurd (a refl)
-no_command (suc (suc zero)) a b d e f g = absurd (b refl)
-no_command (suc (suc (suc zero))) a b d e f g = absurd (d refl)
-no_command (suc (suc (suc (suc zero)))) a b d e f g = absurd (e refl)
-no_command (suc (suc (suc (suc (suc zero))))) a b d e f g = absurd (f refl)
-no_command (suc (suc (suc (suc (suc (suc zero)))))) a b d e f g = absurd (g refl)
-no_command (suc (suc (suc (suc (suc (suc (suc c))))))) a b d e f g = refl
-
 pub eight_columns : (c : ℕ) → length (roles_of c) ≡ 8
 unfolding roles_of
-eight_columns c = rows (λ (r : List ℕ). length r ≡ 8) refl refl refl refl refl refl refl c
+eight_columns c = rows (λ (r : List Role). length r ≡ 8) refl refl refl refl refl refl refl c
 
 pub no_type : (c t : ℕ) → 7 < t → role_of c t ≡ foreign
 unfolding role_of
 no_type c t h = get_or-eq_default (roles_of c) foreign {n = t} (omega (arith, eight_columns c))
 
--- a command's types are those that its row names
-pub but_three
-    : (c a b d : ℕ) → all_below 8 (λ (t : ℕ). eqb t a || (eqb t b || (eqb t d || eqb (role_of c t) foreign))) ≡ true
-    → (k : ℕ) → (k ≡ a → ⊥) → (k ≡ b → ⊥) → (k ≡ d → ⊥) → foreign ≡ role_of c k
-but_three c a b d e k na nb nd = elim (dec_lt k 8) [
-  | yes h ↦
-      let x = below_all (λ (t : ℕ). eqb t a || (eqb t b || (eqb t d || eqb (role_of c t) foreign))) 8 e k h in
-      sym (eqb-true (role_of c k) foreign (simp (ne_eqb k a na, ne_eqb k b nb, ne_eqb k d nd) at x))
-  | no h ↦ sym (no_type c k (omega arith))
-]
-
-pub no_role : (c : ℕ) → roles_of c ≡ no_roles → (k : ℕ) → foreign ≡ role_of c k
-unfolding role_of
-no_role c e k = rw e (elim (dec_lt k 8) [
-  | yes h ↦ each_type (λ (t : ℕ). foreign ≡ get_or no_roles t foreign) refl refl refl refl refl refl refl refl k h
-  | no h ↦ sym (get_or-eq_default no_roles foreign {n = k} (omega arith))
-])
-
 -- there is no type 1
 pub no_type_1 : (c : ℕ) → role_of c 1 ≡ foreign
 unfolding role_of roles_of
-no_type_1 c = rows (λ (r : List ℕ). get_or r 1 foreign ≡ foreign) refl refl refl refl refl refl refl c
+no_type_1 c = rows (λ (r : List Role). get_or r 1 foreign ≡ foreign) refl refl refl refl refl refl refl c
 
 -- a type that is not foreign to a command is below 8, and not 1
 pub type_small : (c t : ℕ) → (role_of c t ≡ foreign → ⊥) → t < 8
@@ -92,19 +81,6 @@ type_small c t own = elim (dec_lt t 8) [
 
 pub type_not_1 : (c t : ℕ) → (role_of c t ≡ foreign → ⊥) → t ≡ 1 → ⊥
 type_not_1 c t own q = own (ap (role_of c) q ∙ no_type_1 c)
-
-pub no_lengths_lem
-    : (t : ℕ) → (t ≡ 0 → ⊥) → (t ≡ 2 → ⊥) → (t ≡ 3 → ⊥) → (t ≡ 4 → ⊥) → (t ≡ 5 → ⊥) → (t ≡ 6 → ⊥) → (t ≡ 7 → ⊥) → lengths_of t ≡ no_lengths
-unfolding lengths_of
-no_lengths_lem zero z a b d e f g = absurd (z refl)
-no_lengths_lem (suc zero) z a b d e f g = refl
-no_lengths_lem (suc (suc zero)) z a b d e f g = absurd (a refl)
-no_lengths_lem (suc (suc (suc zero))) z a b d e f g = absurd (b refl)
-no_lengths_lem (suc (suc (suc (suc zero)))) z a b d e f g = absurd (d refl)
-no_lengths_lem (suc (suc (suc (suc (suc zero))))) z a b d e f g = absurd (e refl)
-no_lengths_lem (suc (suc (suc (suc (suc (suc zero)))))) z a b d e f g = absurd (f refl)
-no_lengths_lem (suc (suc (suc (suc (suc (suc (suc zero))))))) z a b d e f g = absurd (g refl)
-no_lengths_lem (suc (suc (suc (suc (suc (suc (suc (suc t)))))))) z a b d e f g = refl
 
 -- two bytes hold the greatest length
 length_rule : (t : ℕ) → (lengths_of t).1 ≤ 65535

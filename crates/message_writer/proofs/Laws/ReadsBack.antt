@@ -13,12 +13,10 @@ use lib.Dec.{ltb}
 use lib.ListN.{length, take, drop, get_or, length-drop}
 use lib.Seq.{get_or-append-add, drop-append-add, take_at, length-take-le}
 use Rattle.wire.specs.Number.{number_in, bytes_in}
-use Rattle.wire.specs.declared.status.Status.{Status}
+use Rattle.std.specs.Prelude.{Result, Ok, Err}
+use Rattle.wire.specs.declared.status.Refused.{Refused}
 use Rattle.message_rules.specs.declared.record.Field.{Field}
 use Rattle.message_rules.specs.declared.record.Message.{Message}
-use Rattle.message_reader.specs.declared.Answer.TheVariants as answer
-use Rattle.wire.specs.declared.written.Written.{Written}
-use Rattle.wire.specs.declared.written.Written.TheVariants as written
 use Rattle.message_rules.specs.Rules.{role_of, needed}
 use Rattle.message_rules.specs.Record.{absent, field_of, value_of, with_field, empty_of, size_to}
 use Rattle.message_reader.specs.Reading.{command_in, type_at, length_at, next_at, value_at, read_message}
@@ -27,7 +25,7 @@ use Rattle.message_reader.specs.Theorems.{Headed, RightTlv, Reached, AcceptedExa
 use Rattle.message_writer.specs.Theorems.{SameMessage, ReadsBack}
 use Rattle.message_reader.specs.Theorems as given
 use Rattle.wire.proofs.Laws.Bool.{either, by_test}
-use Rattle.message_rules.proofs.Laws.Rules.{type_small}
+use Rattle.message_rules.proofs.Laws.Rules.{needed_own, type_small}
 use Rattle.message_rules.proofs.Laws.Record.{field_same, field_other, field_empty, field_type, past, command_with, command_empty}
 use Rattle.message_reader.proofs.Laws.Reading.{accepted_exactly}
 use Rattle.message_rules.proofs.Laws.Size.{size_least, size_grows, size_there}
@@ -210,14 +208,14 @@ module _ (s : List ℕ) (m : Message) (w : writable (length s) m ≡ true) where
   complete : (t : ℕ) → role_of (placed_to m 8).command t ≡ needed → (field_of (placed_to m 8) t).present ≡ true
   complete t n =
       let c = rw (placed_command m 8) at n in
-      let h : t < 8 = type_small m.command t (λ e. omega arith) in
+      let h : t < 8 = type_small m.command t (needed_own (role_of m.command t) c) in
       ⊎_elim
       (λ (p : (field_of m t).present ≡ true). simp (placed_all m t, p))
       (λ (p : (field_of m t).present ≡ false). absurd (ok_absent (length s) m t (ok_below s m w t h) p c))
       (either (field_of m t).present)
 
   -- reading the message of a record gives the record of what is written
-  pub read_message_lem : read_message (message_of s m) ≡ answer.Accepted (placed_to m 8)
+  pub read_message_lem : read_message (message_of s m) ≡ Ok (placed_to m 8)
   unfolding AcceptedExactly
   read_message_lem =
       (accepted_exactly x (placed_to m 8)).1
@@ -238,19 +236,19 @@ module _ (s : List ℕ) (m : Message) (w : writable (length s) m ≡ true) where
 -- ---- what the writer's answer says
 
 pub answer_wrote
-    : (s : List ℕ) (m : Message) (out : List ℕ) (n : ℕ) → write_answer s m out ≡ written.Wrote n
+    : (s : List ℕ) (m : Message) (out : List ℕ) (n : ℕ) → write_answer s m out ≡ Ok n
     → (writable (length s) m ≡ true) × (size_to m 8 ≡ n) × (size_to m 8 ≤ length out)
 unfolding write_answer
 answer_wrote s m out n =
-    let P : Written → Type 0 = λ a. a ≡ written.Wrote n → (writable (length s) m ≡ true) × (size_to m 8 ≡ n) × (size_to m 8 ≤ length out) in
+    let P : Result ℕ Refused → Type 0 = λ a. a ≡ Ok n → (writable (length s) m ≡ true) × (size_to m 8 ≡ n) × (size_to m 8 ≤ length out) in
     by_test P (not (writable (length s) m)) _ _ (λ e q. absurd (other q))
     (λ e. by_test P (ltb (length out) (size_to m 8)) _ _ (λ f q. absurd (other q))
     (λ f q. (not-false (writable (length s) m) e, same q, ltb-false (length out) (size_to m 8) f)))
   where
-    other : {st : Status} {place : ℕ} → written.Refused st place ≡ written.Wrote n → ⊥
+    other : {r : Refused} → ◌≡◌ {A = Result ℕ Refused} (Err r) (Ok n) → ⊥
     other q = let z : ◌≡◌ {A = ℕ} 0 1 = cc in omega arith
 
-    same : {k : ℕ} → written.Wrote k ≡ written.Wrote n → k ≡ n
+    same : {k : ℕ} → ◌≡◌ {A = Result ℕ Refused} (Ok k) (Ok n) → k ≡ n
     same q = cc
 
 -- the bytes that were written are the message

@@ -7,24 +7,23 @@ use mathlib.Core.List.{List, ◌++◌, append-nil, append_assoc}
 use mathlib.Core.Logic.{⊎_elim}
 use native.Mathlib.Omega.{arith}
 use native.Mathlib.Nat.{eq-or-lt_of_le}
-use borrow.Author.Tests.{le-leb, ne_eqb}
+use borrow.Author.Tests.{le-leb}
 use lib.ListN.{length, take, drop}
 use lib.Seq.{take-add, drop-cons, drop-drop, take-length}
+use Rattle.std.specs.Prelude.{Ok}
 use Rattle.wire.specs.Number.{bytes, Bytes}
 use Rattle.wire.proofs.Laws.Number.{writes_back, number_small}
 use Rattle.message_rules.specs.declared.record.Field.{Field}
 use Rattle.message_rules.specs.declared.record.Message.{Message}
-use Rattle.message_reader.specs.declared.Answer.TheVariants as answer
-use Rattle.wire.specs.declared.written.Written.TheVariants as written
 use Rattle.message_rules.specs.Rules.{role_of, foreign, needed}
 use Rattle.message_rules.specs.Record.{field_of, with_field, size_to}
-use Rattle.message_reader.specs.Reading.{command_in, type_at, length_at, next_at, value_at, read_message}
+use Rattle.message_reader.specs.Reading.{Answer, command_in, type_at, length_at, next_at, value_at, read_message}
 use Rattle.message_writer.specs.Writing.{field_ok, writable, tlv_bytes, body_to, head_bytes, message_of, output}
 use Rattle.message_reader.specs.Theorems.{Headed, RightTlv, Reached, WellFormed, AcceptedExactly, AcceptedWellFormed}
 use Rattle.message_writer.specs.Theorems.{Rising, WritesBack}
 use Rattle.message_reader.specs.Theorems as given
 use Rattle.wire.proofs.Laws.Bool.{either, not_both}
-use Rattle.message_rules.proofs.Laws.Rules.{type_small, type_not_1}
+use Rattle.message_rules.proofs.Laws.Rules.{false_same_role, type_small, type_not_1}
 use Rattle.wire.proofs.Laws.Below.{all_below_lem}
 use Rattle.message_rules.proofs.Laws.Record.{field_same, field_other}
 use Rattle.message_reader.proofs.Laws.Reading.{accepted_exactly}
@@ -46,11 +45,11 @@ ok_field s m k t =
     let q = k.placed t p in
     simp (
       p,
-      ne_eqb r foreign q.expected,
+      false_same_role r foreign q.expected,
       le-leb (f.at + f.len) (length s) q.within,
       q.fitting,
     ))
-    (λ (p : f.present ≡ false). simp (p, ne_eqb r needed (λ e. not_both f.present (k.complete t e) p)))
+    (λ (p : f.present ≡ false). simp (p, false_same_role r needed (λ e. not_both f.present (k.complete t e) p)))
     (either f.present)
 
 accepted_writable : (s : List ℕ) (m : Message) → Bytes s → WellFormed s m → writable (length s) m ≡ true
@@ -143,7 +142,7 @@ module _ (s : List ℕ) (b : Bytes s) where
       tlv_bytes_lem _ k.whole
       ∙ rw (rising_bytes r (before _ _ r k up), more _ _ r k up) (append_assoc (take 4 s) _ _)
 
-  rising_message : (m : Message) → read_message s ≡ answer.Accepted m → Rising m → message_of s m ≡ s
+  rising_message : (m : Message) → read_message s ≡ Ok m → Rising m → message_of s m ≡ s
   unfolding message_of AcceptedExactly AcceptedWellFormed
   rising_message m e up =
       let a = (accepted_exactly s m).0 e in
@@ -172,7 +171,7 @@ placed_rising m t u h p q =
         (λ (e : (field_of m v).present ≡ false). not_both (field_of (placed_to m 8) v).present p (simp (placed_all m v, e)))
         (either (field_of m v).present)
 
-same_record : {a b : Message} → answer.Accepted a ≡ answer.Accepted b → a ≡ b
+same_record : {a b : Message} → ◌≡◌ {A = Answer} (Ok a) (Ok b) → a ≡ b
 same_record e = cc
 
 pub writes_back_exactly : WritesBack
@@ -183,9 +182,9 @@ writes_back_exactly s m out b e room =
     let h : size_to m 8 ≤ length out = omega (arith, k.filled) in
     let l : take (length s) (output s m out) ≡ message_of s m
     = ap (λ (n : ℕ). take n (output s m out)) (sym k.filled) ∙ written_bytes s m out w h in (
-      sym (wrote s m out w h).0 ∙ ap written.Wrote k.filled,
+      sym (wrote s m out w h).0 ∙ ap Ok k.filled,
       λ up. l ∙ rising_message s b m e up,
       λ q.
-          let r : read_message s ≡ answer.Accepted (placed_to m 8) = ap read_message (sym (sym l ∙ q)) ∙ read_message_lem s m w in
+          let r : read_message s ≡ Ok (placed_to m 8) = ap read_message (sym (sym l ∙ q)) ∙ read_message_lem s m w in
           subst Rising (sym (same_record (sym e ∙ r))) (placed_rising m),
     )

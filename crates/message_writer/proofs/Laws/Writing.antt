@@ -6,26 +6,28 @@ use mathlib.Core.List.{List, [], ◌∷◌, ◌++◌, append-nil}
 use mathlib.Core.Logic.{⊎_elim}
 use native.Mathlib.Omega.{arith}
 use native.Mathlib.Numerals.{add-one}
-use borrow.Author.Tests.{leb-true, lt-ltb, le-ltb, eqb-false, not-true}
-use lib.Dec.{leb, eqb}
+use borrow.Author.Tests.{leb-true, lt-ltb, le-ltb, not-true}
+use lib.Dec.{leb}
 use lib.ListN.{length, drop, length-append, length-drop}
 use lib.Seq.{length-take-le}
+use Rattle.std.specs.Prelude.{Some, None, Ok, Err}
+use Rattle.std.proofs.lemmas.Option.{none-some}
 use Rattle.wire.specs.Number.{bytes_in, bytes}
 use Rattle.wire.specs.Splice.{splice}
-use Rattle.wire.specs.declared.status.Status.TheVariants as status
+use Rattle.wire.specs.Status.{refused_at}
+use Rattle.wire.specs.declared.status.Refusal.TheVariants as refusal
 use Rattle.wire.proofs.Laws.Number.{length_bytes}
 use Rattle.wire.proofs.Laws.Splice.{length_splice}
 use Rattle.wire.proofs.Laws.Written.{Written, next_part}
 use Rattle.message_rules.specs.declared.record.Field.{Field}
 use Rattle.message_rules.specs.declared.record.Message.{Message}
-use Rattle.wire.specs.declared.written.Written.TheVariants as answer
-use Rattle.message_rules.specs.Rules.{role_of, foreign, needed, length_ok, known_command}
+use Rattle.message_rules.specs.Rules.{role_of, foreign, needed, same_role, length_ok, known_command}
 use Rattle.wire.specs.Below.{all_below}
 use Rattle.message_rules.specs.Record.{field_of, value_of, tlv_size, size_to}
 use Rattle.message_writer.specs.Writing.{field_ok, writable, tlv_bytes, body_to, head_bytes, message_of, write_answer, output}
 use Rattle.wire.proofs.Laws.Bool.{either, both}
-use Rattle.message_rules.proofs.Laws.Rules.{length_held}
-use Rattle.message_rules.proofs.Laws.Size.{size_grows, size_least, size_there}
+use Rattle.message_rules.proofs.Laws.Rules.{same_role_false, length_held}
+use Rattle.message_rules.proofs.Laws.Size.{size_grows, size_there}
 use Rattle.wire.proofs.Laws.Below.{below_all}
 
 -- ---- bytes in the output
@@ -43,7 +45,7 @@ splice_front ds xs = let e : 0 + length ds ≡ length ds = omega arith in rw e
 module _ (n : ℕ) (m : Message) (t : ℕ) (ok : field_ok n m t ≡ true) where
   module _ (p : (field_of m t).present ≡ true) where
     tests
-        : (not (eqb (role_of m.command t) foreign) ≡ true) × (leb ((field_of m t).at + (field_of m t).len) n ≡ true)
+        : (not (same_role (role_of m.command t) foreign) ≡ true) × (leb ((field_of m t).at + (field_of m t).len) n ≡ true)
         × (length_ok t (field_of m t).len ≡ true)
     unfolding field_ok
     tests =
@@ -52,7 +54,7 @@ module _ (n : ℕ) (m : Message) (t : ℕ) (ok : field_ok n m t ≡ true) where
         (a.0, b.0, b.1)
 
     pub ok_expected : role_of m.command t ≡ foreign → ⊥
-    ok_expected = eqb-false (role_of m.command t) foreign (not-true (eqb (role_of m.command t) foreign) tests.0)
+    ok_expected = same_role_false (role_of m.command t) foreign (not-true (same_role (role_of m.command t) foreign) tests.0)
 
     pub ok_within : (field_of m t).at + (field_of m t).len ≤ n
     ok_within = leb-true ((field_of m t).at + (field_of m t).len) n tests.1
@@ -65,7 +67,7 @@ module _ (n : ℕ) (m : Message) (t : ℕ) (ok : field_ok n m t ≡ true) where
 
   pub ok_absent : (field_of m t).present ≡ false → role_of m.command t ≡ needed → ⊥
   unfolding field_ok
-  ok_absent p = eqb-false (role_of m.command t) needed (not-true (eqb (role_of m.command t) needed) (rw p at ok))
+  ok_absent p = same_role_false (role_of m.command t) needed (not-true (same_role (role_of m.command t) needed) (rw p at ok))
 
 -- ---- the sizes and the bytes of the fields of the types below t
 
@@ -161,17 +163,17 @@ module _ (s : List ℕ) (m : Message) (w : writable (length s) m ≡ true) where
 -- ---- the writer's answers
 
 module _ (s : List ℕ) (m : Message) (out : List ℕ) where
-  pub not_writable : writable (length s) m ≡ false → (answer.Refused status.NotWritable 0 ≡ write_answer s m out) × (out ≡ output s m out)
+  pub not_writable : writable (length s) m ≡ false → (Err (refused_at refusal.NotWritable 0) ≡ write_answer s m out) × (out ≡ output s m out)
   unfolding write_answer output
   not_writable e = (simp e, simp e)
 
   module _ (w : writable (length s) m ≡ true) where
-    pub no_room : length out < size_to m 8 → (answer.Refused status.NoRoom 0 ≡ write_answer s m out) × (out ≡ output s m out)
+    pub no_room : length out < size_to m 8 → (Err (refused_at refusal.NoRoom 0) ≡ write_answer s m out) × (out ≡ output s m out)
     unfolding write_answer output
     no_room h = (simp (w, lt-ltb (length out) (size_to m 8) h), simp (w, lt-ltb (length out) (size_to m 8) h))
 
     pub wrote
-        : size_to m 8 ≤ length out → (answer.Wrote (size_to m 8) ≡ write_answer s m out)
+        : size_to m 8 ≤ length out → (Ok (size_to m 8) ≡ write_answer s m out)
         × (message_of s m ++ drop (size_to m 8) out ≡ output s m out)
     unfolding write_answer output
     wrote h = (simp (w, le-ltb (length out) (size_to m 8) h), simp (w, le-ltb (length out) (size_to m 8) h))
@@ -192,20 +194,8 @@ module _ (s : List ℕ) (m : Message) (out : List ℕ) where
         ∙ ap (λ (k : ℕ). message_of s m ++ drop k out) l
         ∙ (wrote h).1
 
--- ---- the size, or 0
+-- ---- the size, if it can be written
 
-or_zero : (b : Bool) (x r : ℕ) → r ≡ cond b x 0 → 4 ≤ x → r ≡ 0 → b ≡ false
-or_zero true x r e h z = absurd (let no : ⊥ = omega arith in no)
-or_zero false x r e h z = refl
-
-or_size : (b : Bool) (x r : ℕ) → r ≡ cond b x 0 → (r ≡ 0 → ⊥) → (b ≡ true) × (r ≡ x)
-or_size true x r e n = (refl, e)
-or_size false x r e n = absurd (n e)
-
--- A size is 4 or more, so that 0 says that the record can't be written, and any other number is the size.
-module _ (n : ℕ) (m : Message) (r : ℕ) (e : r ≡ cond (writable n m) (size_to m 8) 0) where
-  pub sized_not : r ≡ 0 → writable n m ≡ false
-  sized_not = or_zero (writable n m) (size_to m 8) r e (size_least m 8)
-
-  pub sized : (r ≡ 0 → ⊥) → (writable n m ≡ true) × (r ≡ size_to m 8)
-  sized = or_size (writable n m) (size_to m 8) r e
+pub no_size : (b : Bool) (x : ℕ) → None ≡ cond b (Some x) None → b ≡ false
+no_size true x e = absurd (none-some x e)
+no_size false x e = refl

@@ -5,22 +5,22 @@ use mathlib.Core.Bool.{Bool, true, false, not, ◌&&◌}
 use mathlib.Core.List.{List, ◌++◌}
 use mathlib.Core.Logic.{◌⊎◌, inl, inr, ⊎_elim}
 use native.Mathlib.Omega.{arith}
-use borrow.Author.Tests.{leb-false, eqb-true, not-false}
-use lib.Dec.{leb, eqb}
+use borrow.Author.Tests.{leb-false, not-false}
+use lib.Dec.{leb}
 use lib.ListN.{length, drop, length-append, length-drop}
 use lib.Seq.{drop_at}
 use Rattle.message_rules.specs.declared.record.Message.{Message}
-use Rattle.wire.specs.declared.written.Written.{Written}
-use Rattle.wire.specs.declared.written.Written.TheVariants as written
+use Rattle.std.specs.Prelude.{Result, Ok, Err}
 use Rattle.wire.specs.Numbered.{numbered}
-use Rattle.message_rules.specs.Rules.{role_of, foreign, needed, length_ok, known_command}
+use Rattle.wire.specs.declared.status.Refused.{Refused}
+use Rattle.message_rules.specs.Rules.{role_of, foreign, needed, same_role, length_ok, known_command}
 use Rattle.wire.specs.Below.{all_below}
 use Rattle.message_rules.specs.Record.{field_of, size_to}
 use Rattle.message_writer.specs.Writing.{field_ok, writable, message_of, write_answer, output_after, output}
 use Rattle.message_writer.specs.Theorems.{Unwritable, WrittenExactly, RestKept}
 use Rattle.message_writer.specs.Theorems as given
 use Rattle.wire.proofs.Laws.Bool.{either, by_test, not_both}
-use Rattle.message_rules.proofs.Laws.Rules.{type_small}
+use Rattle.message_rules.proofs.Laws.Rules.{same_role_true, needed_own, type_small}
 use Rattle.wire.proofs.Laws.Below.{one_fails}
 use Rattle.message_rules.proofs.Laws.Record.{field_type}
 use Rattle.message_writer.proofs.Laws.Writing.{ok_expected, ok_within, ok_fitting, ok_absent, known, ok_below, size_small}
@@ -40,12 +40,12 @@ module _ (n : ℕ) (m : Message) where
       let r = role_of m.command t in
       by_test (λ b. b ≡ false → Unwritable n m) f.present _ _
       (λ p e.
-      ⊎_elim (λ a. given.foreign_tlv t p (eqb-true r foreign (not-false (eqb r foreign) a)))
+      ⊎_elim (λ a. given.foreign_tlv t p (same_role_true r foreign (not-false (same_role r foreign) a)))
       (λ b.
       ⊎_elim (λ a. given.outside t p (leb-false (f.at + f.len) n a)) (λ a. given.value_length t p a)
       (fails (leb (f.at + f.len) n) (length_ok t f.len) b))
-      (fails (not (eqb r foreign)) (leb (f.at + f.len) n && length_ok t f.len) e))
-      (λ p e. given.absent_tlv t p (eqb-true r needed (not-false (eqb r needed) e)))
+      (fails (not (same_role r foreign)) (leb (f.at + f.len) n && length_ok t f.len) e))
+      (λ p e. given.absent_tlv t p (same_role_true r needed (not-false (same_role r needed) e)))
 
   reason : writable n m ≡ false → Unwritable n m
   unfolding writable
@@ -65,7 +65,7 @@ module _ (s : List ℕ) (m : Message) where
   no_reason w (given.no_command e) = not_both (known_command m.command) (known s m w) e
   no_reason w (given.foreign_tlv t p e) = ok_expected (length s) m t (ok_below s m w t (field_type m t p).0) p e
   no_reason w (given.absent_tlv t p e) =
-      let h : t < 8 = type_small m.command t (λ (f : role_of m.command t ≡ foreign). omega arith) in
+      let h : t < 8 = type_small m.command t (needed_own (role_of m.command t) e) in
       ok_absent (length s) m t (ok_below s m w t h) p e
   no_reason w (given.too_long h) = let l = size_small s m w in omega arith
 
@@ -85,9 +85,9 @@ written_exactly s m out =
       one_of = ⊎_elim (λ w. inr (no_reason s m w)) (λ e. inl (reason (length s) m e)) (either (writable (length s) m));
     }
 
-refused_kept : (a : Written) (message out : List ℕ) → ((numbered a).number ≡ 0 → ⊥) → output_after a message out ≡ out
-refused_kept (written.Wrote n) message out f = absurd (f refl)
-refused_kept (written.Refused st place) message out f = refl
+refused_kept : (a : Result ℕ Refused) (message out : List ℕ) → ((numbered a).number ≡ 0 → ⊥) → output_after a message out ≡ out
+refused_kept (Ok n) message out f = absurd (f refl)
+refused_kept (Err r) message out f = refl
 
 pub rest_kept : RestKept
 unfolding RestKept output
@@ -96,6 +96,6 @@ rest_kept s m out = (
   λ n e.
       let a = answer_wrote s m out n e in
       let l = message_length s m a.0 in
-      let o : output s m out ≡ message_of s m ++ drop n out = ap (λ (x : Written). output_after x (message_of s m) out) e in
+      let o : output s m out ≡ message_of s m ++ drop n out = ap (λ (x : Result ℕ Refused). output_after x (message_of s m) out) e in
       (ap length o ∙ (simp (length-append, length-drop) (omega (arith, l, a.1, a.2))), ap (drop n) o ∙ drop_at (message_of s m) (drop n out) n (l ∙ a.1)),
 )

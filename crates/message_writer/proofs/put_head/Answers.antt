@@ -23,4 +23,4 @@ laid size c xs ys zs ds small h p q r =
 
 pub returns : goal.returns
 returns c = let a = c.args in
-    laid a.size a.command a.out.now _ _ _ (omega arith) (omega arith) c.put_u16.ensures.bytes c.put_u8.ensures.bytes c.put_u8-2.ensures.bytes
+    laid a.size a.command a.out.now _ _ _ (omega arith) (omega arith) c.write.ensures.bytes c.write-2.ensures.bytes c.write-3.ensures.bytes

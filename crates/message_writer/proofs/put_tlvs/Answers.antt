@@ -16,7 +16,7 @@ use Rattle.message_writer.proofs.put_tlvs.Goals as goal
 
 pub loop-kind-init : goal.loop-kind-init
 unfolding size_to body_to
-loop-kind-init c = (omega arith, refl, sym (splice_none 4 _))
+loop-kind-init c = (refl, sym (splice_none 4 _))
 
 pub put_tlv-at-requires : goal.put_tlv-at-requires
 put_tlv-at-requires c = let pre = c.requires in
@@ -27,11 +27,11 @@ put_tlv-at-requires c = let pre = c.requires in
     let xs = a.out.now in
     let t = c.loop-kind-test.true in
     let p = rw f.ensures at c.if-value.true in
-    let e = ap length l.invariant.2 ∙ laid_length s a.message xs pre.0 pre.1 l.kind l.invariant.0 in
+    let e = ap length l.invariant.1 ∙ laid_length s a.message xs pre.0 pre.1 l.kind (omega arith) in
     rw f.ensures (
       tlv_within s a.message xs pre.0 pre.1 l.kind t p,
       tlv_small s a.message xs pre.0 pre.1 l.kind t p,
-      omega (arith, tlv_room s a.message xs pre.0 pre.1 l.kind t p, e, l.invariant.1),
+      omega (arith, tlv_room s a.message xs pre.0 pre.1 l.kind t p, e, l.invariant.0),
     )
 
 pub loop-kind-preserved : goal.loop-kind-preserved
@@ -46,28 +46,14 @@ loop-kind-preserved c = let pre = c.requires in
           let p = rw f.ensures at w.if-value.true in
           let q = ap (λ (x : Field). x.len) f.ensures in
           let r = w.put_tlv-at in
-          let e : l.at + 3 + f.result.len ≡ size_to a.message (l.kind + 1) = omega (arith, size_there a.message l.kind p, q, l.invariant.1) in (
-            omega arith,
+          let e : l.at + 3 + f.result.len ≡ size_to a.message (l.kind + 1) = omega (arith, size_there a.message l.kind p, q, l.invariant.0) in (
             w.at-is ∙ r.ensures.0 ∙ e,
-            laid_next s a.message xs pre.0 pre.1 l.kind c.loop-kind-test.true p l.out _ l.invariant.2
-                (w.out-is ∙ rw (l.invariant.1, f.ensures) at r.ensures.1),
+            laid_next s a.message xs pre.0 pre.1 l.kind c.loop-kind-test.true p l.out _ l.invariant.1
+                (w.out-is ∙ rw (l.invariant.0, f.ensures) at r.ensures.1),
           )
       | else-value w ↦
           let p = rw f.ensures at w.if-value.false in (
-            omega arith,
-            w.at-is ∙ l.invariant.1 ∙ sym (size_none a.message l.kind p),
-            w.out-is ∙ l.invariant.2 ∙ ap (λ (b : List ℕ). splice 4 b xs) (sym (body_none a.message s l.kind p)),
+            w.at-is ∙ l.invariant.0 ∙ sym (size_none a.message l.kind p),
+            w.out-is ∙ l.invariant.1 ∙ ap (λ (b : List ℕ). splice 4 b xs) (sym (body_none a.message s l.kind p)),
           )
     ]
-
-pub shape_of-out : goal.shape_of-out
-shape_of-out c = let pre = c.requires in
-    let a = c.args in
-    let l = c.loop-kind in
-    ap length l.invariant.2 ∙ laid_length a.bytes.now a.message a.out.now pre.0 pre.1 l.kind l.invariant.0
-
-pub returns : goal.returns
-returns c = let a = c.args in
-    let l = c.loop-kind in
-    let e : l.kind ≡ 8 = omega arith in
-    l.invariant.2 ∙ ap (λ (k : ℕ). splice 4 (body_to a.bytes.now a.message k) a.out.now) e

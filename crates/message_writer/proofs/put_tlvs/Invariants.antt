@@ -1,5 +1,4 @@
 -- The TLVs of the types below `kind` are laid after the header, and `at` is the place after them. Assumes nothing.
-use Prim.Native.Nat.{◌≤◌, ◌-◌}
 use mathlib.Core.Path.{◌≡◌}
 use Rattle.wire.specs.Splice.{splice}
 use Rattle.message_rules.specs.Record.{size_to}
@@ -7,7 +6,4 @@ use Rattle.message_writer.specs.Writing.{body_to}
 use Rattle.message_writer.proofs.put_tlvs.Given as goal
 
 abbrev pub invariant-loop-kind : goal.invariant-loop-kind
-invariant-loop-kind l = (l.kind ≤ 8) × (l.at ≡ size_to l.message l.kind) × (l.out ≡ splice 4 (body_to l.bytes l.message l.kind) l.initial.out)
-
-abbrev pub decreases-loop-kind : goal.decreases-loop-kind
-decreases-loop-kind l = 8 - l.kind
+invariant-loop-kind l = (l.at ≡ size_to l.message l.kind) × (l.out ≡ splice 4 (body_to l.bytes l.message l.kind) l.initial.out)

@@ -19,38 +19,25 @@ small n m t f q ok p = rw q (ok_small n m t ok (rw q at p))
 
 pub loop-kind-init : goal.loop-kind-init
 unfolding size_to
-loop-kind-init c = (omega arith, below_none _, refl, omega arith)
+loop-kind-init c = (below_none _, refl, omega arith)
 
 pub returns-then-not-field_ok : goal.returns-then-not-field_ok
 returns-then-not-field_ok c = let a = c.args in
     rw (one_below (field_ok a.n a.message) 8 c.loop-kind.kind c.loop-kind-test.true (sym c.field_ok.ensures ∙ c.if-not-field_ok.true))
-
-pub overflow_add-size-then-value : goal.overflow_add-size-then-value
-overflow_add-size-then-value c = let f = c.field_of-value in
-    let l = c.loop-kind in
-    let a = c.args in
-    let ok = sym c.field_ok.ensures ∙ c.if-not-field_ok.false in
-    omega (arith, small a.n a.message l.kind f.result f.ensures ok c.if-value.true, l.invariant)
 
 pub loop-kind-preserved : goal.loop-kind-preserved
 loop-kind-preserved c = let f = c.field_of-value in
     let l = c.loop-kind in
     let a = c.args in
     let ok = sym c.field_ok.ensures ∙ c.if-not-field_ok.false in
-    let all = below_next _ l.kind l.invariant.1 ok in
+    let all = below_next _ l.kind l.invariant.0 ok in
     elim c.if-value.branch [
       | then-value w ↦
           let h = small a.n a.message l.kind f.result f.ensures ok w.if-value.true in
           let e = size_there a.message l.kind (rw f.ensures at w.if-value.true) in
           let q = ap (λ (x : Field). x.len) f.ensures in
-          (omega arith, all, omega (arith, w.size-is, e, q, l.invariant), omega (arith, w.size-is, h, l.invariant))
+          (all, omega (arith, w.size-is, e, q, l.invariant), omega (arith, w.size-is, h, l.invariant))
       | else-value w ↦
           let e = size_none a.message l.kind (rw f.ensures at w.if-value.false) in
-          (omega arith, all, omega (arith, w.size-is, e, l.invariant), omega (arith, w.size-is, l.invariant))
+          (all, omega (arith, w.size-is, e, l.invariant), omega (arith, w.size-is, l.invariant))
     ]
-
-pub returns : goal.returns
-returns c = let l = c.loop-kind in
-    let a = c.args in
-    let e : l.kind ≡ 8 = omega arith in
-    rw (rw e at l.invariant.1) (l.invariant.2 ∙ ap (size_to a.message) e)

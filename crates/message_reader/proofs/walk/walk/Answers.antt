@@ -1,62 +1,28 @@
 -- The values found so far are those of the record so far, and each turn finds one TLV more. Assumes nothing.
 use mathlib.Core.Path.{sym, ap, ◌∙◌}
 use native.Mathlib.Omega.{arith}
-use Rattle.message_reader.specs.Values.{message_from, values_after, answer_number}
+use Rattle.std.specs.Prelude.{Err}
+use Rattle.message_reader.specs.Values.{message_from, values_after, command_of}
 use Rattle.message_reader.proofs.Laws.Values.{values_back}
-use Rattle.message_reader.proofs.Laws.Walk.{walked_start, walked_fits, walked_next, walked_refused, walked_complete, walked_missing}
+use Rattle.message_reader.proofs.Laws.Walk.{walked_fits, walked_complete, walked_missing}
 use Rattle.message_reader.proofs.walk.walk.Goals as goal
-
-pub loop-at-init : goal.loop-at-init
-loop-at-init c = walked_start _ _ _ c.requires.0 c.requires.1
-
-pub loop-at-preserved : goal.loop-at-preserved
-loop-at-preserved c = walked_next c.loop-at.invariant c.loop-at-test.true _ _ (sym c.tlv_at.ensures ∙ c.in-Right.is)
-
-pub refuse-requires : goal.refuse-requires
-refuse-requires c = omega (arith, c.loop-at.invariant.short)
-
-pub returns-in-Refused : goal.returns-in-Refused
-returns-in-Refused c = let w = walked_refused c.loop-at.invariant c.loop-at-test.true _ (sym c.tlv_at.ensures ∙ c.in-Refused.is) in
-    let r = c.refuse.ensures in
-    record { answer = r.answer ∙ ap answer_number w; values = r.values ∙ ap values_after w }
 
 pub returns-then-is_complete : goal.returns-then-is_complete
 unfolding message_from
 returns-then-is_complete c = let g = c.loop-at.invariant in
     let w = walked_complete g c.loop-at-test.false (sym c.is_complete.ensures ∙ c.if-is_complete.true) in
-    record { answer = ap answer_number w; values = values_back _ _ g.eight ∙ ap values_after w }
+    record { answer = ap command_of w; values = values_back _ _ g.eight ∙ ap values_after w }
 
 pub returns : goal.returns
 returns c = let w = walked_missing c.loop-at.invariant c.loop-at-test.false (sym c.is_complete.ensures ∙ c.if-is_complete.false) in
     let r = c.refuse-2.ensures in
-    record { answer = r.answer ∙ ap answer_number w; values = r.values ∙ ap values_after w }
+    record { answer = ap Err r.answer ∙ ap command_of w; values = r.values ∙ ap values_after w }
 
-pub overflow_add-values : goal.overflow_add-values
-overflow_add-values c = omega (arith, (walked_fits c.loop-at.invariant c.loop-at-test.true _ _ (sym c.tlv_at.ensures ∙ c.in-Right.is)).whole)
-
-pub overflow_mul-values : goal.overflow_mul-values
-overflow_mul-values c = omega (arith, (walked_fits c.loop-at.invariant c.loop-at-test.true _ _ (sym c.tlv_at.ensures ∙ c.in-Right.is)).whole, c.loop-at.invariant.short)
-
-pub overflow_add-values-in-Right : goal.overflow_add-values-in-Right
-overflow_add-values-in-Right c = omega (arith, (walked_fits c.loop-at.invariant c.loop-at-test.true _ _ (sym c.tlv_at.ensures ∙ c.in-Right.is)).whole, c.loop-at.invariant.short)
-
-pub overflow_cast-values : goal.overflow_cast-values
-overflow_cast-values c = omega (arith, (walked_fits c.loop-at.invariant c.loop-at-test.true _ _ (sym c.tlv_at.ensures ∙ c.in-Right.is)).small)
-
-pub offset_bounds-values-kind : goal.offset_bounds-values-kind
-offset_bounds-values-kind c = omega (arith, (walked_fits c.loop-at.invariant c.loop-at-test.true _ _ (sym c.tlv_at.ensures ∙ c.in-Right.is)).small)
+pub overflow_cast-values-in-Ok : goal.overflow_cast-values-in-Ok
+overflow_cast-values-in-Ok c = omega (arith, (walked_fits c.loop-at.invariant c.loop-at-test.true _ _ (sym c.tlv_at.ensures ∙ c.in-Ok.is)).whole, c.loop-at.invariant.short)
 
 pub bounds-values-kind : goal.bounds-values-kind
-bounds-values-kind c = omega (arith, (walked_fits c.loop-at.invariant c.loop-at-test.true _ _ (sym c.tlv_at.ensures ∙ c.in-Right.is)).small, c.loop-at.invariant.eight.eight)
+bounds-values-kind c = omega (arith, (walked_fits c.loop-at.invariant c.loop-at-test.true _ _ (sym c.tlv_at.ensures ∙ c.in-Ok.is)).small, c.loop-at.invariant.eight.eight)
 
-pub overflow_add-at : goal.overflow_add-at
-overflow_add-at c = omega (arith, (walked_fits c.loop-at.invariant c.loop-at-test.true _ _ (sym c.tlv_at.ensures ∙ c.in-Right.is)).whole)
-
-pub overflow_add-at-in-Right : goal.overflow_add-at-in-Right
-overflow_add-at-in-Right c = omega (arith, (walked_fits c.loop-at.invariant c.loop-at-test.true _ _ (sym c.tlv_at.ensures ∙ c.in-Right.is)).whole)
-
-pub loop-at-smaller : goal.loop-at-smaller
-loop-at-smaller c = omega (arith, (walked_fits c.loop-at.invariant c.loop-at-test.true _ _ (sym c.tlv_at.ensures ∙ c.in-Right.is)).whole)
-
-pub refuse-requires-2 : goal.refuse-requires-2
-refuse-requires-2 c = omega (arith, c.loop-at.invariant.short)
+pub overflow_add-at-in-Ok : goal.overflow_add-at-in-Ok
+overflow_add-at-in-Ok c = omega (arith, (walked_fits c.loop-at.invariant c.loop-at-test.true _ _ (sym c.tlv_at.ensures ∙ c.in-Ok.is)).whole)
