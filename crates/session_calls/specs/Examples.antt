@@ -16,7 +16,8 @@ use Rattle.session_table.specs.Source.{carried, other_source, same_bytes}
 use Rattle.session_table.specs.Table.{is_event}
 use Rattle.session_step.specs.Step.{source_after, accepted, step_of}
 use Rattle.session_step.specs.Message.{on_message}
-use Rattle.session_layout.specs.SessionLayout.{state_of, id_at, session_bytes, session_of, same_session}
+use Rattle.session_layout.specs.SessionLayout.{id_at, session_bytes, session_of, same_session}
+use Rattle.session_table.specs.Record.{state_of}
 use Rattle.host_answers.specs.declared.Step.{Step}
 use Rattle.session_calls.specs.SessionCalls.{step_result, bytes_left, source_in, lent_enough, session_step, session_message}
 

@@ -1,20 +1,20 @@
 -- The calls of the session: what each answers, and what the lent record then holds. Assumes nothing.
-use Rattle.std.specs.Prelude.{ℕ, ◌≡◌, Bool, true, false, not, cond, ◌&&◌, ◌||◌, List, eqb, leb, length}
+use Rattle.std.specs.Prelude.{ℕ, ◌≡◌, Bool, true, false, not, cond, ◌&&◌, ◌||◌, List, eqb, leb, length, is_ok, Ok, Err}
 use Rattle.message_rules.specs.Rules.{known_command}
-use Rattle.wire.specs.declared.status.Status.TheVariants as status
-use Rattle.wire.specs.Status.{number_of}
+use Rattle.wire.specs.declared.status.Refusal.TheVariants as refusal
+use Rattle.wire.specs.Status.{refusal_number}
 use Rattle.wire.specs.Number.{written}
 use Rattle.message_rules.specs.declared.accessors.SourceId.{SourceId}
 use Rattle.message_rules.specs.Accessors.{no_source}
 use Rattle.session_table.specs.declared.record.State.TheVariants as state
 use Rattle.session_table.specs.declared.record.Session.{Session}
 use Rattle.session_table.specs.Record.{is_open}
-use Rattle.session_step.specs.declared.step.Answer.{Answer}
 use Rattle.session_step.specs.declared.step.Stepped.{Stepped}
-use Rattle.session_step.specs.Step.{step_of}
+use Rattle.session_step.specs.Step.{Answer, step_of}
 use Rattle.session_step.specs.Message.{on_message}
 use Rattle.wire.specs.Laid.{laid}
-use Rattle.session_layout.specs.SessionLayout.{source_at, state_number, session_bytes, session_of, same_session}
+use Rattle.session_layout.specs.SessionLayout.{source_at, session_bytes, session_of, same_session}
+use Rattle.session_table.specs.Record.{state_number}
 use Rattle.host_answers.specs.declared.Step.{Step}
 
 -- an answer, with what the lent record then holds
@@ -27,11 +27,12 @@ step_result r xs = record { answer = r; bytes = xs }
 
 -- a lent slice is too short: 10, and nothing changes
 abbrev pub short_step : Step
-short_step = record { status = number_of status.NoRoom; check = false; place = 0 }
+short_step = record { status = refusal_number refusal.NoRoom; check = false; place = 0 }
 
 -- a step's answer by the paper's number
 abbrev pub answer_of : Answer → Step
-answer_of a = record { status = number_of a.status; check = a.check; place = a.place }
+answer_of (Ok a) = record { status = 0; check = a.check; place = 0 }
+answer_of (Err r) = record { status = refusal_number r.refusal; check = false; place = r.place }
 
 -- Where it stays whether a Source ID is kept, so do its bytes: this holds of a session and what a step makes of it, since a step keeps a first
 -- Source ID and no later one.
@@ -44,7 +45,7 @@ SourceStays before after = before.source.present ≡ after.source.present → be
 unfoldable pub bytes_left : Session → Stepped → List ℕ → List ℕ
 bytes_left before s xs =
     cond (same_session before s.session) xs
-    (cond (eqb (number_of s.answer.status) 0) (laid (session_bytes s.session) xs) (written 1 (state_number s.session.state) 0 xs))
+    (cond (is_ok s.answer) (laid (session_bytes s.session) xs) (written 1 (state_number s.session.state) 0 xs))
 
 abbrev pub result_of : Session → Stepped → List ℕ → StepResult
 result_of before s xs = step_result (answer_of s.answer) (bytes_left before s xs)

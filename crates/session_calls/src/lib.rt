@@ -14,11 +14,11 @@ use message_rules::rules;
 use session_step::step::{Answer, Stepped};
 use session_step::{message_step, step};
 use session_table::record::Session;
-use wire::number::put_u8;
-use wire::status;
-use wire::status::Status;
+use wire::number;
+use wire::status::Refusal;
 
 // Writes the session of a new connection.
+#[tactic(auto, unfolding(session_layout::specs::SessionLayout::session_bytes, wire::specs::Number::bytes_in))]
 pub fn fresh(record: &mut [u8]) -> u8
     ensures answer { result ≡ fresh_answer 19 (length «record».old) }
     ensures bytes { «record».new ≡ laid (session_bytes fresh_session) «record».old }
@@ -26,67 +26,62 @@ pub fn fresh(record: &mut [u8]) -> u8
     host_answers::fresh(record, session_layout::LENGTH)
 }
 
+// A step's answer by the paper's number. It is no From, which would have to stand beside one of the two types: each has a crate of its own.
+fn answered(answer: Answer) -> Step
+    ensures { result ≡ answer_of answer }
+{
+    match answer {
+        Ok(accepted) => Step {
+            status: 0,
+            check: accepted.check,
+            place: 0,
+        },
+        Err(refused) => Step {
+            status: refused.refusal.number(),
+            check: false,
+            place: refused.place,
+        },
+    }
+}
+
 // A lent slice is too short.
 fn short() -> Step
     ensures { result ≡ short_step }
 {
-    Step {
-        status: status::number(Status::NoRoom),
-        check: false,
-        place: 0,
-    }
-}
-
-// A step's answer by the paper's number.
-fn answered(answer: Answer) -> Step
-    ensures { result ≡ answer_of answer }
-{
-    let status = answer.status;
-    Step {
-        status: status::number(status),
-        check: answer.check,
-        place: answer.place,
-    }
+    answered(Err(Refusal::NoRoom.into()))
 }
 
 // Whether a step made of the session `before` the same one. Where it stays whether a Source ID is kept, the bytes need no look.
+#[tactic(auto, using(crate::proofs::Laws::SessionCalls::flag_decides), unfolding(session_layout::specs::SessionLayout::same_session))]
 fn is_same(before: Session, after: Session) -> bool
     requires { SourceStays before after }
     ensures { result ≡ same_session before after }
 {
-    let old = before.state;
-    let new = after.state;
-    if session_layout::number_of(old) != session_layout::number_of(new) {
-        return false;
-    }
-    if before.options != after.options {
-        return false;
-    }
-    before.source.present == after.source.present
+    before.state == after.state
+        && before.options == after.options
+        && before.source.present == after.source.present
 }
 
 // Leaves what the step makes of the session `before` in the record, and answers. Where it is the same session, each byte stays; else an accepted
 // step writes it, and a refused one its state alone: 14 closes an open session, and every other refusal changes nothing.
+#[tactic(auto, unfolding(crate::specs::SessionCalls::bytes_left))]
 fn leave(record: &mut [u8], before: Session, stepped: Stepped) -> Step
     requires { SourceStays before stepped.session }
     ensures { step_result result «record».new ≡ result_of before stepped «record».old }
 {
-    let answer = stepped.answer;
     let session = stepped.session;
-    if is_same(before, session) {
-        return answered(answer);
+    if !is_same(before, session) {
+        if stepped.answer.is_ok() {
+            session_layout::write(record, session);
+        } else {
+            number::write(record, 0, u8::from(session.state));
+        }
     }
-    let status = answer.status;
-    if status::number(status) == 0 {
-        session_layout::write(record, session);
-        return answered(answer);
-    }
-    let state = session.state;
-    put_u8(record, 0, session_layout::number_of(state));
-    answered(answer)
+    answered(stepped.answer)
 }
 
 // The Source ID in the first 16 bytes; fewer are none.
+#[tactic(auto, unfolding(crate::specs::SessionCalls::source_in))]
 fn source_of(bytes: &[u8]) -> SourceId
     ensures { result ≡ source_in bytes.now }
 {
@@ -101,23 +96,17 @@ fn source_of(bytes: &[u8]) -> SourceId
 
 // Whether a record of so many bytes has all of its own, and with a message `source` is a Source ID or none. With any other event it is not
 // looked at.
+#[tactic(auto, unfolding(crate::specs::SessionCalls::lent_enough))]
 fn lent_enough(lent: usize, event: u8, source: &[u8]) -> bool
     ensures { result ≡ lent_enough lent event source.now }
 {
-    if lent < session_layout::LENGTH {
-        return false;
-    }
-    if source.len() == 0 {
-        return true;
-    }
-    if 16 <= source.len() {
-        return true;
-    }
-    !rules::known_command(event)
+    session_layout::LENGTH <= lent
+        && (source.is_empty() || 16 <= source.len() || !rules::known_command(event))
 }
 
 // A step with an event: 1 to 6 the commands of messages, 7 handshake done, 8 PIN right, 9 PIN wrong, 10 connection lost. With a message `source`
 // has no bytes where it carries no Source ID, else the Source ID in its first 16; with any other event it is not looked at.
+#[tactic(auto, using(crate::proofs::Laws::SessionCalls::event_stays), unfolding(crate::specs::SessionCalls::session_step))]
 pub fn on_event(record: &mut [u8], event: u8, source: &[u8], options: u8) -> Step
     ensures { step_result result «record».new ≡ session_step «record».old event source.now options }
 {
@@ -130,6 +119,7 @@ pub fn on_event(record: &mut [u8], event: u8, source: &[u8], options: u8) -> Ste
 }
 
 // A step with a message, which is all of the lent bytes.
+#[tactic(auto, using(crate::proofs::Laws::SessionCalls::message_stays), unfolding(crate::specs::SessionCalls::session_message))]
 pub fn on_message(record: &mut [u8], bytes: &[u8]) -> Step
     ensures { step_result result «record».new ≡ session_message «record».old bytes.now }
 {

@@ -10,7 +10,8 @@ use Rattle.scan.specs.Bytes.{copied}
 use Rattle.session_table.specs.declared.record.State.TheVariants as state
 use Rattle.session_table.specs.declared.record.Session.{Session}
 use Rattle.session_table.specs.Source.{same_bytes}
-use Rattle.session_layout.specs.SessionLayout.{state_of, id_at, session_bytes, session_of, same_session}
+use Rattle.session_layout.specs.SessionLayout.{id_at, session_bytes, session_of, same_session}
+use Rattle.session_table.specs.Record.{state_of}
 
 abbrev pub projecting : Session
 projecting = record { state = state.Projecting; options = 3; source = record { present = true; bytes = replicate 16 7 } }

@@ -1,27 +1,14 @@
 -- The session as bytes. Assumes nothing.
-use Rattle.std.specs.Prelude.{ℕ, ◌≤◌, ◌<◌, ◌≡◌, List, [], ◌∷◌, ◌++◌, Bool, true, ◌&&◌, eqb, length, get_or, drop, replicate}
+use Rattle.std.specs.Prelude.{ℕ, ◌≤◌, ◌<◌, ◌≡◌, List, ◌++◌, Bool, true, ◌&&◌, eqb, length, drop, replicate}
 use Rattle.std.specs.Bool.{beq}
 use Rattle.scan.specs.Bytes.{copied}
 use Rattle.message_rules.specs.declared.accessors.SourceId.{SourceId}
-use Rattle.session_table.specs.declared.record.State.{State}
-use Rattle.session_table.specs.declared.record.State.TheVariants as state
 use Rattle.session_table.specs.declared.record.Session.{Session}
+use Rattle.session_table.specs.Record.{state_of, state_number}
 use Rattle.session_table.specs.Source.{same_bytes}
 use Rattle.wire.specs.Laid.{laid}
 use Rattle.wire.specs.Layout.{flag, is_set}
 use Rattle.wire.specs.LittleEndian.{number_at, bytes}
-
--- the numbers of the states, from 0 on; any greater number is Closed
-unfoldable pub state_of : ℕ → State
-state_of n = get_or (state.Waiting ∷ state.Handshake ∷ state.PinWait ∷ state.ReadyWait ∷ state.Projecting ∷ []) n state.Closed
-
-abbrev pub state_number : State → ℕ
-state_number state.Waiting = 0
-state_number state.Handshake = 1
-state_number state.PinWait = 2
-state_number state.ReadyWait = 3
-state_number state.Projecting = 4
-state_number state.Closed = 5
 
 -- the 16 bytes from a place on; a byte past the end counts as 0
 unfoldable pub id_at : ℕ → List ℕ → List ℕ

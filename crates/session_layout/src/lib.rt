@@ -10,45 +10,17 @@
 ghost use Rattle.std.specs.Prelude.{◌≡◌, ◌≤◌, length};
 ghost use Rattle.wire.specs.Splice.{splice};
 ghost use Rattle.wire.specs.Laid.{laid};
-ghost use Rattle.session_layout.specs.SessionLayout.{state_of, state_number, id_at, source_at, session_bytes, session_of};
+ghost use Rattle.session_layout.specs.SessionLayout.{id_at, source_at, session_bytes, session_of};
 
 use message_rules::accessors::SourceId;
 use scan::bytes;
 use session_table::record::{Session, State};
-use wire::little_endian::{put_u8, u8_at};
+use wire::little_endian;
 
 pub const LENGTH: usize = 19;
 
-// The state with this number.
-#[tactic(auto, unfolding(crate::specs::SessionLayout::state_of))]
-fn state_of(number: u8) -> State
-    ensures { result ≡ state_of number }
-{
-    match number {
-        0 => State::Waiting,
-        1 => State::Handshake,
-        2 => State::PinWait,
-        3 => State::ReadyWait,
-        4 => State::Projecting,
-        _ => State::Closed,
-    }
-}
-
-// The number of a state.
-pub fn number_of(state: State) -> u8
-    ensures { result ≡ state_number state }
-{
-    match state {
-        State::Waiting => 0,
-        State::Handshake => 1,
-        State::PinWait => 2,
-        State::ReadyWait => 3,
-        State::Projecting => 4,
-        State::Closed => 5,
-    }
-}
-
 // The 16 bytes of a Source ID from a place on; a byte past the end counts as 0.
+#[tactic(auto, unfolding(crate::specs::SessionLayout::id_at, scan::specs::Bytes::copied))]
 fn id_at(bytes: &[u8], at: usize) -> [u8; 16]
     ensures { result ≡ id_at at bytes.now }
 {
@@ -69,23 +41,15 @@ pub fn source_at(present: bool, bytes: &[u8], at: usize) -> SourceId
     }
 }
 
-// Copies a Source ID to the 16 places from 3 on.
-fn put_id(record: &mut [u8], id: &[u8; 16])
-    requires { 19 ≤ length «record».old }
-    ensures { «record».new ≡ splice 3 id.now «record».old }
-{
-    bytes::copy(&mut record[3..19], id);
-}
-
 // The session in the bytes.
 #[tactic(auto, unfolding(crate::specs::SessionLayout::session_of))]
 pub fn read(record: &[u8]) -> Session
     ensures { result ≡ session_of «record».now }
 {
     Session {
-        state: state_of(u8_at(record, 0)),
-        options: u8_at(record, 1),
-        source: source_at(u8_at(record, 2) != 0, record, 3),
+        state: State::from(little_endian::read::<u8>(record, 0)),
+        options: little_endian::read(record, 1),
+        source: source_at(little_endian::read::<u8>(record, 2) != 0, record, 3),
     }
 }
 
@@ -96,11 +60,8 @@ pub fn write(record: &mut [u8], session: Session)
     if record.len() < LENGTH {
         return;
     }
-    let state = session.state;
-    let source = session.source;
-    let id = source.bytes;
-    put_u8(record, 0, number_of(state));
-    put_u8(record, 1, session.options);
-    put_u8(record, 2, source.present as u8);
-    put_id(record, &id);
+    little_endian::write(record, 0, u8::from(session.state));
+    little_endian::write(record, 1, session.options);
+    little_endian::write(record, 2, u8::from(session.source.present));
+    record[3..LENGTH].copy_from_slice(&session.source.bytes);
 }

@@ -1,9 +1,10 @@
 -- Small examples of the session's steps, P12 of 01 among them. Each is computed. Assumes nothing.
-use Rattle.std.specs.Prelude.{ℕ, ◌≡◌, refl, List, [], ◌∷◌, true, false, replicate}
+use Rattle.std.specs.Prelude.{ℕ, ◌≡◌, refl, List, [], ◌∷◌, true, false, replicate, Ok, Err}
 use Rattle.std.proofs.Common.{arith}
 use Rattle.message_rules.specs.Rules.{known_command}
 use Rattle.wire.specs.Below.{all_below}
-use Rattle.wire.specs.declared.status.Status.TheVariants as status
+use Rattle.wire.specs.declared.status.Refusal.TheVariants as refusal
+use Rattle.wire.specs.Status.{refused_at}
 use Rattle.message_rules.specs.declared.accessors.SourceId.{SourceId}
 use Rattle.session_table.specs.declared.record.State.{State}
 use Rattle.session_table.specs.declared.record.State.TheVariants as state
@@ -13,17 +14,17 @@ use Rattle.session_table.specs.Record.{fresh_session}
 use Rattle.session_table.specs.Source.{carried, other_source, same_bytes}
 use Rattle.session_table.specs.Table.{is_event}
 use Rattle.session_step.specs.Step.{wants_pin, pin_or_ready, options_from, source_after, accepted, refused, closed, stepped_to, step_of}
-use Rattle.session_step.specs.Runs.{Event, stepped, next, run, is_accepted, pin_right}
+use Rattle.session_step.specs.Runs.{Event, stepped, next, run, answer_to, is_accepted, pin_right}
 
 -- P12: Waiting, Stop Projection: Closed, accepted
 pub p12
     : step_of fresh_session 2 no_source 0
-    ≡ stepped_to (record { status = status.Accepted; place = 0; check = false }) (record { state = state.Closed; options = 0; source = no_source })
+    ≡ stepped_to (Ok (record { check = false })) (record { state = state.Closed; options = 0; source = no_source })
 unfolding step_of is_event other_source carried accepted source_after options_from
 p12 = refl
 
 -- a number that is no event is 4, in Closed too
-pub no_event : step_of (record { state = state.Closed; options = 0; source = no_source }) 11 no_source 0 ≡ refused status.UnknownKind 0 (record { state = state.Closed; options = 0; source = no_source })
+pub no_event : step_of (record { state = state.Closed; options = 0; source = no_source }) 11 no_source 0 ≡ refused refusal.UnknownKind 0 (record { state = state.Closed; options = 0; source = no_source })
 unfolding step_of is_event other_source
 no_event = refl
 
@@ -64,7 +65,7 @@ strange_stop = record { number = 2; source = stranger; options = 0 }
 pub closed_refuses_met
     : ((session_in state.Closed).state ≡ state.Closed)
     × (is_event ready.number ≡ true)
-    × (stepped (session_in state.Closed) ready ≡ refused status.UnexpectedEvent 0 (session_in state.Closed))
+    × (stepped (session_in state.Closed) ready ≡ refused refusal.UnexpectedEvent 0 (session_in state.Closed))
 unfolding step_of is_event other_source
 closed_refuses_met = (refl, refl, refl)
 
@@ -75,10 +76,10 @@ closed_for_good_met = (refl, refl)
 
 -- RefusalKeeps: Source Ready in PinWait is 14 and closes; Stop Projection of another source is 15 there and changes nothing
 pub refusal_keeps_met
-    : (is_accepted (session_in state.PinWait) ready ≡ false)
-    × (stepped (session_in state.PinWait) ready ≡ refused status.UnexpectedEvent 0 (closed (session_in state.PinWait)))
-    × (is_accepted (session_in state.PinWait) strange_stop ≡ false)
-    × (stepped (session_in state.PinWait) strange_stop ≡ refused status.OtherSource 0 (session_in state.PinWait))
+    : (answer_to (session_in state.PinWait) ready ≡ Err (refused_at refusal.UnexpectedEvent 0))
+    × (stepped (session_in state.PinWait) ready ≡ refused refusal.UnexpectedEvent 0 (closed (session_in state.PinWait)))
+    × (answer_to (session_in state.PinWait) strange_stop ≡ Err (refused_at refusal.OtherSource 0))
+    × (stepped (session_in state.PinWait) strange_stop ≡ refused refusal.OtherSource 0 (session_in state.PinWait))
 unfolding step_of is_event other_source known_command carried same_bytes all_below
 refusal_keeps_met = (refl, refl, refl, refl)
 
@@ -94,8 +95,8 @@ pub other_changes_nothing_met
     : (sender.present ≡ true)
     × (carried strange_stop.number stranger ≡ true)
     × (same_bytes sender.bytes stranger.bytes ≡ false)
-    × (stepped (session_in state.Projecting) strange_stop ≡ refused status.OtherSource 0 (session_in state.Projecting))
-    × (stepped (session_in state.Closed) strange_stop ≡ refused status.UnexpectedEvent 0 (session_in state.Closed))
+    × (stepped (session_in state.Projecting) strange_stop ≡ refused refusal.OtherSource 0 (session_in state.Projecting))
+    × (stepped (session_in state.Closed) strange_stop ≡ refused refusal.UnexpectedEvent 0 (session_in state.Closed))
 unfolding step_of is_event other_source known_command carried same_bytes all_below
 other_changes_nothing_met = (refl, refl, refl, refl, refl)
 

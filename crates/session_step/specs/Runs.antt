@@ -1,13 +1,11 @@
 -- Lists of events, as a host gives them to a session one after the other. Assumes nothing.
-use Rattle.std.specs.Prelude.{ℕ, List, [], ◌∷◌, Bool, false, cond, ◌&&◌, ◌||◌, eqb}
-use Rattle.wire.specs.declared.status.Status.{Status}
-use Rattle.wire.specs.Status.{number_of}
+use Rattle.std.specs.Prelude.{ℕ, List, [], ◌∷◌, Bool, false, cond, ◌&&◌, ◌||◌, eqb, is_ok}
 use Rattle.message_rules.specs.declared.accessors.SourceId.{SourceId}
 use Rattle.session_table.specs.declared.record.Session.{Session}
 use Rattle.message_rules.specs.Accessors.{no_source}
 use Rattle.session_table.specs.Source.{carried}
 use Rattle.session_step.specs.declared.step.Stepped.{Stepped}
-use Rattle.session_step.specs.Step.{step_of}
+use Rattle.session_step.specs.Step.{Answer, step_of}
 
 -- what comes with an event: its number, a Source ID, which may be absent, and the option byte
 pub record Event : Type 0 where
@@ -27,11 +25,11 @@ run s [] = s
 run s (e ∷ l) = run (next s e) l
 
 -- what it is answered with, and whether it is accepted
-abbrev pub status_of : Session → Event → Status
-status_of s e = (stepped s e).answer.status
+abbrev pub answer_to : Session → Event → Answer
+answer_to s e = (stepped s e).answer
 
 abbrev pub is_accepted : Session → Event → Bool
-is_accepted s e = eqb (number_of (status_of s e)) 0
+is_accepted s e = is_ok (answer_to s e)
 
 -- the first Source ID that an accepted event carries, if one does
 unfoldable pub first_source : Session → List Event → SourceId

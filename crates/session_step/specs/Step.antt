@@ -1,17 +1,23 @@
 -- One step of the session (01, "Sink session"). Assumes nothing.
-use Rattle.std.specs.Prelude.{ℕ, ◌/◌, ◌%◌, Bool, true, false, not, cond, eqb}
-use Rattle.wire.specs.declared.status.Status.{Status}
-use Rattle.wire.specs.declared.status.Status.TheVariants as status
+use Rattle.std.specs.Prelude.{ℕ, ◌/◌, ◌%◌, Bool, true, false, not, cond, eqb, Result, Ok, Err}
+use Rattle.wire.specs.declared.status.Refusal.{Refusal}
+use Rattle.wire.specs.declared.status.Refusal.TheVariants as refusal
+use Rattle.wire.specs.declared.status.Refused.{Refused}
+use Rattle.wire.specs.Status.{refused_at}
 use Rattle.message_rules.specs.declared.accessors.SourceId.{SourceId}
 use Rattle.session_table.specs.declared.record.State.{State}
 use Rattle.session_table.specs.declared.record.State.TheVariants as state
 use Rattle.session_table.specs.declared.record.Session.{Session}
 use Rattle.session_table.specs.declared.table.Next.{Next}
-use Rattle.session_table.specs.declared.table.Next.TheVariants.{NoEvent, Unexpected, CheckPin, PinOrReady, ToHandshake, ToReadyWait, ToProjecting, ToClosed}
+use Rattle.session_table.specs.declared.table.Next.TheVariants.{NoEvent, Unexpected, CheckPin, PinOrReady, To}
 use Rattle.session_table.specs.Source.{carried, other_source}
 use Rattle.session_table.specs.Table.{is_event, table}
-use Rattle.session_step.specs.declared.step.Answer.{Answer}
+use Rattle.session_step.specs.declared.step.Accepted.{Accepted}
 use Rattle.session_step.specs.declared.step.Stepped.{Stepped}
+
+-- what a step answers: whether the host shall check the PIN, or the refusal and its place
+abbrev pub Answer : Type 0
+Answer = Result Accepted Refused
 
 -- the PIN option: bit 02 hex of the option byte (001 section 2.2.7.5, SinkDisplaysPin)
 unfoldable pub wants_pin : ℕ → Bool
@@ -41,7 +47,7 @@ source_after kept event source = cond kept.present kept (cond (carried event sou
 unfoldable pub accepted : Session → State → Bool → ℕ → SourceId → ℕ → Stepped
 accepted s to check event source options =
     record {
-      answer = record { status = status.Accepted; place = 0; check = check };
+      answer = Ok (record { check = check });
       session =
           record {
             state = to;
@@ -50,8 +56,8 @@ accepted s to check event source options =
           };
     }
 
-abbrev pub refused : Status → ℕ → Session → Stepped
-refused st place s = record { answer = record { status = st; place = place; check = false }; session = s }
+abbrev pub refused : Refusal → ℕ → Session → Stepped
+refused r place s = record { answer = Err (refused_at r place); session = s }
 
 -- closing changes the state's name only
 abbrev pub closed : Session → Session
@@ -59,20 +65,17 @@ closed s = record { state = state.Closed; options = s.options; source = s.source
 
 -- what the table says is done; everything that it doesn't have is 14 and goes to Closed
 abbrev pub follow : Next → Session → ℕ → SourceId → ℕ → Stepped
-follow NoEvent s event source options = refused status.UnknownKind 0 s
-follow Unexpected s event source options = refused status.UnexpectedEvent 0 (closed s)
+follow NoEvent s event source options = refused refusal.UnknownKind 0 s
+follow Unexpected s event source options = refused refusal.UnexpectedEvent 0 (closed s)
 follow CheckPin s event source options = accepted s s.state true event source options
 follow PinOrReady s event source options = accepted s (pin_or_ready s.options) false event source options
-follow ToHandshake s event source options = accepted s state.Handshake false event source options
-follow ToReadyWait s event source options = accepted s state.ReadyWait false event source options
-follow ToProjecting s event source options = accepted s state.Projecting false event source options
-follow ToClosed s event source options = accepted s state.Closed false event source options
+follow (To state) s event source options = accepted s state false event source options
 
 -- 4 first, in any state; then 15; then the table
 unfoldable pub step_of : Session → ℕ → SourceId → ℕ → Stepped
 step_of s event source options =
-    cond (not (is_event event)) (refused status.UnknownKind 0 s)
-    (cond (other_source s event source) (refused status.OtherSource 0 s)
+    cond (not (is_event event)) (refused refusal.UnknownKind 0 s)
+    (cond (other_source s event source) (refused refusal.OtherSource 0 s)
     (follow (table s.state event) s event source options))
 
 -- an answer and the session that it leaves

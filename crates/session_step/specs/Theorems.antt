@@ -1,9 +1,10 @@
 -- What holds of the session's steps and of any list of events. The proofs stand in proofs/Laws, in Runs.antt and, of what a step doesn't look
 -- at, Unseen.antt. Assumes nothing.
-use Rattle.std.specs.Prelude.{ℕ, ◌≡◌, List, ◌⊎◌, true, false, cond, ◌&&◌, eqb}
+use Rattle.std.specs.Prelude.{ℕ, ◌≡◌, List, ◌⊎◌, true, false, cond, ◌&&◌, eqb, Err}
 use Rattle.message_rules.specs.Rules.{known_command}
-use Rattle.wire.specs.Status.{number_of}
-use Rattle.wire.specs.declared.status.Status.TheVariants as status
+use Rattle.wire.specs.Status.{refusal_number}
+use Rattle.wire.specs.declared.status.Refusal.TheVariants as refusal
+use Rattle.wire.specs.declared.status.Refused.{Refused}
 use Rattle.message_rules.specs.declared.accessors.SourceId.{SourceId}
 use Rattle.session_table.specs.declared.record.State.TheVariants as state
 use Rattle.session_table.specs.declared.record.Session.{Session}
@@ -11,12 +12,12 @@ use Rattle.session_table.specs.Record.{fresh_session, is_open}
 use Rattle.session_table.specs.Source.{carried, same_bytes}
 use Rattle.session_table.specs.Table.{is_event}
 use Rattle.session_step.specs.Step.{wants_pin, closed, refused, step_of}
-use Rattle.session_step.specs.Runs.{Event, stepped, next, run, status_of, is_accepted, first_source, pin_right}
+use Rattle.session_step.specs.Runs.{Event, stepped, next, run, answer_to, is_accepted, first_source, pin_right}
 
 -- "In Closed every event is 14 and nothing changes": and so after any list of events
 unfoldable pub ClosedRefuses : Type 0
 ClosedRefuses =
-    (s : Session) (e : Event) → s.state ≡ state.Closed → is_event e.number ≡ true → stepped s e ≡ refused status.UnexpectedEvent 0 s
+    (s : Session) (e : Event) → s.state ≡ state.Closed → is_event e.number ≡ true → stepped s e ≡ refused refusal.UnexpectedEvent 0 s
 
 unfoldable pub ClosedForGood : Type 0
 ClosedForGood = (s : Session) (l : List Event) → s.state ≡ state.Closed → run s l ≡ s
@@ -24,8 +25,8 @@ ClosedForGood = (s : Session) (l : List Event) → s.state ≡ state.Closed → 
 -- "Every refusal changes nothing, except 14 in an open session, which closes it"; "Closing changes the state's name only"
 unfoldable pub RefusalKeeps : Type 0
 RefusalKeeps =
-    (s : Session) (e : Event) → is_accepted s e ≡ false
-    → stepped s e ≡ refused (status_of s e) 0 (cond (eqb (number_of (status_of s e)) 14 && is_open s.state) (closed s) s)
+    (s : Session) (e : Event) (r : Refused) → answer_to s e ≡ Err r
+    → stepped s e ≡ refused r.refusal 0 (cond (eqb (refusal_number r.refusal) 14 && is_open s.state) (closed s) s)
 
 -- "The first Source ID carried by an accepted event is kept": over any list of events from a fresh session
 unfoldable pub FirstIsKept : Type 0
@@ -40,7 +41,7 @@ unfoldable pub OtherChangesNothing : Type 0
 OtherChangesNothing =
     (s : Session) (e : Event) → s.source.present ≡ true → carried e.number e.source ≡ true
     → same_bytes s.source.bytes e.source.bytes ≡ false
-    → (stepped s e ≡ refused (cond (is_open s.state) status.OtherSource status.UnexpectedEvent) 0 s) × (next s e ≡ s)
+    → (stepped s e ≡ refused (cond (is_open s.state) refusal.OtherSource refusal.UnexpectedEvent) 0 s) × (next s e ≡ s)
 
 -- "A step looks at a Source ID only with a message, at options only with a Session Request" (4)
 unfoldable pub SourceUnseen : Type 0

@@ -4,7 +4,6 @@ ghost use Rattle.session_step.specs.Message.{on_message};
 
 use crate::step;
 use crate::step::Stepped;
-use message_reader::Answer;
 use message_rules::accessors;
 use session_table::record::Session;
 
@@ -14,13 +13,15 @@ use session_table::record::Session;
 pub fn on_message(session: Session, bytes: &[u8]) -> Stepped
     ensures { result ≡ on_message session bytes.now }
 {
-    let answer = message_reader::read(bytes);
-    let Answer::Accepted(record) = answer else {
-        let refusal = message_reader::status_at(answer);
-        let status = refusal.status;
-        return step::refuse(status, refusal.place, session);
-    };
-    let source = accessors::source_id(bytes, record);
-    let options = accessors::security_options(bytes, record);
-    step::step(session, record.command, source, options)
+    match message_reader::read(bytes) {
+        Ok(message) => {
+            let source = accessors::source_id(bytes, message);
+            let options = accessors::security_options(bytes, message);
+            step::step(session, message.command, source, options)
+        }
+        Err(refused) => Stepped {
+            answer: Err(refused),
+            session,
+        },
+    }
 }

@@ -1,29 +1,37 @@
 // One step of the session, by value.
 ghost use Rattle.std.specs.Prelude.{◌≡◌};
-ghost use Rattle.session_step.specs.Step.{pin_or_ready, options_from, options_after, source_after, accepted, refused, closed, follow, step_of};
+ghost use Rattle.session_step.specs.Step.{pin_or_ready, options_after, source_after, accepted, refused, closed, follow, step_of};
 
 use message_rules::accessors::SourceId;
+use session_table::event::Event;
 use session_table::record::{Session, State};
 use session_table::table::Next;
 use session_table::{source, table};
-use wire::status::Status;
+use wire::status::{Refusal, Refused};
 
-// What a step answers.
-#[derive(Clone, Copy)]
-pub struct Answer {
-    // Accepted, or the refusal.
-    pub status: Status,
-    // Where in the message the refusal's cause stands; 0 where it is not the message's.
-    pub place: usize,
-    // The host shall check the PIN.
+// What an accepted step has the host do.
+#[derive(Clone, Copy, PartialEq, Eq)]
+pub struct Accepted {
+    // Check the PIN.
     pub check: bool,
 }
+
+// What a step answers. The place of a refusal is where in the message its cause stands; 0 where it is not the message's.
+pub type Answer = Result<Accepted, Refused>;
 
 // The answer, and the session afterwards.
 #[derive(Clone, Copy)]
 pub struct Stepped {
     pub answer: Answer,
     pub session: Session,
+}
+
+// An event by its number, and what comes with it: a Source ID, which may be absent, and the option byte.
+#[derive(Clone, Copy)]
+struct Brought {
+    event: u8,
+    source: SourceId,
+    options: u8,
 }
 
 // Where a handshake leads: the PIN option is bit 02 hex of the option byte, SinkDisplaysPin (001 section 2.2.7.5).
@@ -38,84 +46,51 @@ fn pin_or_ready(options: u8) -> State
     }
 }
 
-// The options after an accepted event in Waiting: a Session Request brings them, a Security Handshake sets 0.
-#[tactic(auto, unfolding(crate::specs::Step::options_from))]
-fn options_from(event: u8, kept: u8, options: u8) -> u8
-    ensures { result ≡ options_from event kept options }
+// The options after an accepted event: in Waiting a Session Request brings them and a Security Handshake sets 0, else the kept ones stay.
+#[tactic(auto, unfolding(crate::specs::Step::options_from, session_table::specs::Table::is_event))]
+fn options_after(session: Session, brought: Brought) -> u8
+    ensures { result ≡ options_after session.state brought.event session.options brought.options }
 {
-    match event {
-        3 => 0,
-        4 => options,
-        _ => kept,
-    }
-}
-
-// The options after an accepted event: in every other state the kept ones.
-fn options_after(state: State, event: u8, kept: u8, options: u8) -> u8
-    ensures { result ≡ options_after state event kept options }
-{
-    match state {
-        State::Waiting => options_from(event, kept, options),
-        State::Handshake => kept,
-        State::PinWait => kept,
-        State::ReadyWait => kept,
-        State::Projecting => kept,
-        State::Closed => kept,
+    match (session.state, Event::try_from(brought.event)) {
+        (State::Waiting, Ok(Event::SecurityHandshake)) => 0,
+        (State::Waiting, Ok(Event::SessionRequest)) => brought.options,
+        _ => session.options,
     }
 }
 
 // The Source ID after an accepted event: the first that one carried.
 #[tactic(auto, unfolding(crate::specs::Step::source_after))]
-fn source_after(kept: SourceId, event: u8, source: SourceId) -> SourceId
-    ensures { result ≡ source_after kept event source }
+fn source_after(kept: SourceId, brought: Brought) -> SourceId
+    ensures { result ≡ source_after kept brought.event brought.source }
 {
-    if kept.present {
-        return kept;
+    if !kept.present && source::carries(brought.event, brought.source) {
+        brought.source
+    } else {
+        kept
     }
-    if source::carries(event, source) {
-        return source;
-    }
-    kept
 }
 
 // An event is accepted and leads to a state.
 #[tactic(auto, unfolding(crate::specs::Step::accepted))]
-fn accept(
-    session: Session,
-    to: State,
-    check: bool,
-    event: u8,
-    source: SourceId,
-    options: u8,
-) -> Stepped
-    ensures { result ≡ accepted session to check event source options }
+fn accept(session: Session, to: State, check: bool, brought: Brought) -> Stepped
+    ensures { result ≡ accepted session to check brought.event brought.source brought.options }
 {
-    let state = session.state;
-    let kept = session.source;
     Stepped {
-        answer: Answer {
-            status: Status::Accepted,
-            place: 0,
-            check,
-        },
+        answer: Ok(Accepted { check }),
         session: Session {
             state: to,
-            options: options_after(state, event, session.options, options),
-            source: source_after(kept, event, source),
+            options: options_after(session, brought),
+            source: source_after(session.source, brought),
         },
     }
 }
 
-// An event or a message is refused; the session is given.
-pub(crate) fn refuse(status: Status, place: usize, session: Session) -> Stepped
-    ensures { result ≡ refused status place session }
+// An event is refused; the session is given.
+fn refuse(refusal: Refusal, session: Session) -> Stepped
+    ensures { result ≡ refused refusal 0 session }
 {
     Stepped {
-        answer: Answer {
-            status,
-            place,
-            check: false,
-        },
+        answer: Err(refusal.into()),
         session,
     }
 }
@@ -124,52 +99,38 @@ pub(crate) fn refuse(status: Status, place: usize, session: Session) -> Stepped
 fn close(session: Session) -> Session
     ensures { result ≡ closed session }
 {
-    let source = session.source;
     Session {
         state: State::Closed,
-        options: session.options,
-        source,
+        ..session
     }
 }
 
 // Does what the table says.
-fn follow(next: Next, session: Session, event: u8, source: SourceId, options: u8) -> Stepped
-    ensures { result ≡ follow next session event source options }
+fn follow(next: Next, session: Session, brought: Brought) -> Stepped
+    ensures { result ≡ follow next session brought.event brought.source brought.options }
 {
-    let state = session.state;
     match next {
-        Next::NoEvent => refuse(Status::UnknownKind, 0, session),
-        Next::Unexpected => refuse(Status::UnexpectedEvent, 0, close(session)),
-        Next::CheckPin => accept(session, state, true, event, source, options),
-        Next::PinOrReady => accept(
-            session,
-            pin_or_ready(session.options),
-            false,
-            event,
-            source,
-            options,
-        ),
-        Next::ToHandshake => accept(session, State::Handshake, false, event, source, options),
-        Next::ToReadyWait => accept(session, State::ReadyWait, false, event, source, options),
-        Next::ToProjecting => accept(session, State::Projecting, false, event, source, options),
-        Next::ToClosed => accept(session, State::Closed, false, event, source, options),
+        Next::NoEvent => refuse(Refusal::UnknownKind, session),
+        Next::Unexpected => refuse(Refusal::UnexpectedEvent, close(session)),
+        Next::CheckPin => accept(session, session.state, true, brought),
+        Next::PinOrReady => accept(session, pin_or_ready(session.options), false, brought),
+        Next::To(state) => accept(session, state, false, brought),
     }
 }
 
 // The step. A number that is no event is refused with 4 in any state, a message of another source with 15, and what the table doesn't have with
 // 14. (Only a message is ever of another source, so that the first two never meet.)
+#[tactic(auto, using(crate::proofs::Laws::Step::step_other), unfolding(crate::specs::Step::step_of, session_table::specs::Table::expected_of))]
 pub fn step(session: Session, event: u8, source: SourceId, options: u8) -> Stepped
     ensures { result ≡ step_of session event source options }
 {
     if source::is_other(session, event, source) {
-        return refuse(Status::OtherSource, 0, session);
+        return refuse(Refusal::OtherSource, session);
     }
-    let state = session.state;
-    follow(
-        table::expected(event, state),
-        session,
+    let brought = Brought {
         event,
         source,
         options,
-    )
+    };
+    follow(table::expected(event, session.state), session, brought)
 }

@@ -1,3 +1,4 @@
+pub mod Event
 pub mod Record
 pub mod Source
 pub mod Table

@@ -3,20 +3,33 @@ use Rattle.std.specs.Prelude.{ℕ, List, [], ◌∷◌, Bool, cond, ◌&&◌, ge
 use Rattle.session_table.specs.declared.record.State.{State}
 use Rattle.session_table.specs.declared.record.State.TheVariants as state
 use Rattle.session_table.specs.declared.table.Next.{Next}
-use Rattle.session_table.specs.declared.table.Next.TheVariants.{NoEvent, Unexpected, CheckPin, PinOrReady, ToHandshake, ToReadyWait, ToProjecting, ToClosed}
+use Rattle.session_table.specs.declared.table.Next.TheVariants.{NoEvent, Unexpected, CheckPin, PinOrReady, To}
 
 -- everything else: 14
 abbrev other : Next
 other = Unexpected
 
+-- to a state
+abbrev to_handshake : Next
+to_handshake = To state.Handshake
+
+abbrev to_ready_wait : Next
+to_ready_wait = To state.ReadyWait
+
+abbrev to_projecting : Next
+to_projecting = To state.Projecting
+
+abbrev to_closed : Next
+to_closed = To state.Closed
+
 -- The columns: 1 Source Ready, 2 Stop Projection, 3 Security Handshake, 4 Session Request, 5 PIN Challenge, 6 PIN Response, 7 handshake done,
 -- 8 PIN right, 9 PIN wrong, 10 connection lost.
 abbrev pub row_of : State → List Next
-row_of state.Waiting = ToProjecting ∷ ToClosed ∷ ToHandshake ∷ ToHandshake ∷ other ∷ other ∷ other ∷ other ∷ other ∷ ToClosed ∷ []
-row_of state.Handshake = other ∷ ToClosed ∷ ToHandshake ∷ other ∷ other ∷ other ∷ PinOrReady ∷ other ∷ other ∷ ToClosed ∷ []
-row_of state.PinWait = other ∷ ToClosed ∷ other ∷ other ∷ CheckPin ∷ other ∷ other ∷ ToReadyWait ∷ ToClosed ∷ ToClosed ∷ []
-row_of state.ReadyWait = ToProjecting ∷ ToClosed ∷ other ∷ other ∷ other ∷ other ∷ other ∷ other ∷ other ∷ ToClosed ∷ []
-row_of state.Projecting = other ∷ ToClosed ∷ other ∷ other ∷ other ∷ other ∷ other ∷ other ∷ other ∷ ToClosed ∷ []
+row_of state.Waiting = to_projecting ∷ to_closed ∷ to_handshake ∷ to_handshake ∷ other ∷ other ∷ other ∷ other ∷ other ∷ to_closed ∷ []
+row_of state.Handshake = other ∷ to_closed ∷ to_handshake ∷ other ∷ other ∷ other ∷ PinOrReady ∷ other ∷ other ∷ to_closed ∷ []
+row_of state.PinWait = other ∷ to_closed ∷ other ∷ other ∷ CheckPin ∷ other ∷ other ∷ to_ready_wait ∷ to_closed ∷ to_closed ∷ []
+row_of state.ReadyWait = to_projecting ∷ to_closed ∷ other ∷ other ∷ other ∷ other ∷ other ∷ other ∷ other ∷ to_closed ∷ []
+row_of state.Projecting = other ∷ to_closed ∷ other ∷ other ∷ other ∷ other ∷ other ∷ other ∷ other ∷ to_closed ∷ []
 row_of state.Closed = other ∷ other ∷ other ∷ other ∷ other ∷ other ∷ other ∷ other ∷ other ∷ other ∷ []
 
 -- the entry of a state and an event; there is no event 0

@@ -1,10 +1,10 @@
 // The session record that a host keeps for a connection.
 ghost use Rattle.std.specs.Prelude.{◌≡◌};
-ghost use Rattle.session_table.specs.Record.{fresh_session, is_open};
+ghost use Rattle.session_table.specs.Record.{fresh_session};
 
 use message_rules::accessors::SourceId;
 
-#[derive(Clone, Copy)]
+#[derive(Clone, Copy, PartialEq, Eq)]
 pub enum State {
     Waiting,
     Handshake,
@@ -12,6 +12,45 @@ pub enum State {
     ReadyWait,
     Projecting,
     Closed,
+}
+
+// A host keeps a state by its number: 0 to 4 in the order above, and Closed as 5.
+impl From<State> for u8 {
+    ghost use Rattle.std.specs.Prelude.{◌≡◌};
+    ghost use Rattle.session_table.specs.Record.{state_number};
+
+    ghost from_gives = { λ state number. number ≡ state_number state };
+
+    fn from(state: State) -> u8 {
+        match state {
+            State::Waiting => 0,
+            State::Handshake => 1,
+            State::PinWait => 2,
+            State::ReadyWait => 3,
+            State::Projecting => 4,
+            State::Closed => 5,
+        }
+    }
+}
+
+// Any greater number is Closed too.
+impl From<u8> for State {
+    ghost use Rattle.std.specs.Prelude.{◌≡◌};
+    ghost use Rattle.session_table.specs.Record.{state_of};
+
+    ghost from_gives = { λ number state. state ≡ state_of number };
+
+    #[tactic(auto, unfolding(crate::specs::Record::state_of))]
+    fn from(number: u8) -> State {
+        match number {
+            0 => State::Waiting,
+            1 => State::Handshake,
+            2 => State::PinWait,
+            3 => State::ReadyWait,
+            4 => State::Projecting,
+            _ => State::Closed,
+        }
+    }
 }
 
 #[derive(Clone, Copy)]
@@ -37,19 +76,5 @@ impl Session {
                 bytes: [0u8; 16],
             },
         }
-    }
-}
-
-// Whether a state is any but Closed.
-pub(crate) fn is_open(state: State) -> bool
-    ensures { result ≡ is_open state }
-{
-    match state {
-        State::Waiting => true,
-        State::Handshake => true,
-        State::PinWait => true,
-        State::ReadyWait => true,
-        State::Projecting => true,
-        State::Closed => false,
     }
 }

@@ -2,10 +2,11 @@
 ghost use Rattle.std.specs.Prelude.{◌≡◌};
 ghost use Rattle.session_table.specs.Table.{table, expected_of};
 
+use crate::event::Event;
 use crate::record::State;
 
 // What an event does.
-#[derive(Clone, Copy)]
+#[derive(Clone, Copy, PartialEq, Eq)]
 pub enum Next {
     // No event has this number.
     NoEvent,
@@ -15,116 +16,8 @@ pub enum Next {
     CheckPin,
     // To PinWait if the kept options ask for a PIN, else to ReadyWait.
     PinOrReady,
-    // To the state named, which may be the same.
-    ToHandshake,
-    ToReadyWait,
-    ToProjecting,
-    ToClosed,
-}
-
-fn source_ready(state: State) -> Next
-    ensures { result ≡ table state 1 }
-{
-    match state {
-        State::Waiting => Next::ToProjecting,
-        State::Handshake => Next::Unexpected,
-        State::PinWait => Next::Unexpected,
-        State::ReadyWait => Next::ToProjecting,
-        State::Projecting => Next::Unexpected,
-        State::Closed => Next::Unexpected,
-    }
-}
-
-// Stop Projection, and connection lost.
-fn stop(state: State) -> Next
-    ensures { result ≡ table state 2 }
-{
-    match state {
-        State::Waiting => Next::ToClosed,
-        State::Handshake => Next::ToClosed,
-        State::PinWait => Next::ToClosed,
-        State::ReadyWait => Next::ToClosed,
-        State::Projecting => Next::ToClosed,
-        State::Closed => Next::Unexpected,
-    }
-}
-
-fn security_handshake(state: State) -> Next
-    ensures { result ≡ table state 3 }
-{
-    match state {
-        State::Waiting => Next::ToHandshake,
-        State::Handshake => Next::ToHandshake,
-        State::PinWait => Next::Unexpected,
-        State::ReadyWait => Next::Unexpected,
-        State::Projecting => Next::Unexpected,
-        State::Closed => Next::Unexpected,
-    }
-}
-
-fn session_request(state: State) -> Next
-    ensures { result ≡ table state 4 }
-{
-    match state {
-        State::Waiting => Next::ToHandshake,
-        State::Handshake => Next::Unexpected,
-        State::PinWait => Next::Unexpected,
-        State::ReadyWait => Next::Unexpected,
-        State::Projecting => Next::Unexpected,
-        State::Closed => Next::Unexpected,
-    }
-}
-
-fn pin_challenge(state: State) -> Next
-    ensures { result ≡ table state 5 }
-{
-    match state {
-        State::Waiting => Next::Unexpected,
-        State::Handshake => Next::Unexpected,
-        State::PinWait => Next::CheckPin,
-        State::ReadyWait => Next::Unexpected,
-        State::Projecting => Next::Unexpected,
-        State::Closed => Next::Unexpected,
-    }
-}
-
-fn handshake_done(state: State) -> Next
-    ensures { result ≡ table state 7 }
-{
-    match state {
-        State::Waiting => Next::Unexpected,
-        State::Handshake => Next::PinOrReady,
-        State::PinWait => Next::Unexpected,
-        State::ReadyWait => Next::Unexpected,
-        State::Projecting => Next::Unexpected,
-        State::Closed => Next::Unexpected,
-    }
-}
-
-fn pin_right(state: State) -> Next
-    ensures { result ≡ table state 8 }
-{
-    match state {
-        State::Waiting => Next::Unexpected,
-        State::Handshake => Next::Unexpected,
-        State::PinWait => Next::ToReadyWait,
-        State::ReadyWait => Next::Unexpected,
-        State::Projecting => Next::Unexpected,
-        State::Closed => Next::Unexpected,
-    }
-}
-
-fn pin_wrong(state: State) -> Next
-    ensures { result ≡ table state 9 }
-{
-    match state {
-        State::Waiting => Next::Unexpected,
-        State::Handshake => Next::Unexpected,
-        State::PinWait => Next::ToClosed,
-        State::ReadyWait => Next::Unexpected,
-        State::Projecting => Next::Unexpected,
-        State::Closed => Next::Unexpected,
-    }
+    // To this state, which may be the same.
+    To(State),
 }
 
 // What the event does in the state.
@@ -132,18 +25,20 @@ fn pin_wrong(state: State) -> Next
 pub fn expected(event: u8, state: State) -> Next
     ensures { result ≡ expected_of event state }
 {
-    match event {
-        1 => source_ready(state),
-        2 => stop(state),
-        3 => security_handshake(state),
-        4 => session_request(state),
-        5 => pin_challenge(state),
-        // PIN Response: a sink sends it and gets none.
-        6 => Next::Unexpected,
-        7 => handshake_done(state),
-        8 => pin_right(state),
-        9 => pin_wrong(state),
-        10 => stop(state),
-        _ => Next::NoEvent,
+    let Ok(event) = Event::try_from(event) else {
+        return Next::NoEvent;
+    };
+    match (event, state) {
+        (_, State::Closed) => Next::Unexpected,
+        (Event::SourceReady, State::Waiting | State::ReadyWait) => Next::To(State::Projecting),
+        (Event::StopProjection | Event::ConnectionLost, _) => Next::To(State::Closed),
+        (Event::SecurityHandshake, State::Waiting | State::Handshake) => Next::To(State::Handshake),
+        (Event::SessionRequest, State::Waiting) => Next::To(State::Handshake),
+        (Event::PinChallenge, State::PinWait) => Next::CheckPin,
+        (Event::HandshakeDone, State::Handshake) => Next::PinOrReady,
+        (Event::PinRight, State::PinWait) => Next::To(State::ReadyWait),
+        (Event::PinWrong, State::PinWait) => Next::To(State::Closed),
+        // A PIN Response too: a sink sends it and gets none.
+        _ => Next::Unexpected,
     }
 }

@@ -1,16 +1,14 @@
 -- The calls of the session by their outcomes. Assumes nothing.
-use Prim.Native.Nat.{ℕ, ◌≤◌, ◌<◌}
+use Prim.Native.Nat.{ℕ}
 use mathlib.Core.Path.{◌≡◌, refl, sym, ◌∙◌, subst}
 use mathlib.Core.Bool.{Bool, true, false, ◌&&◌, ◌||◌, beq}
 use lib.Dec.{eqb, leb}
 use mathlib.Core.List.{List}
-use borrow.Author.Tests.{le-leb, lt-leb}
 use lib.ListN.{length}
 use Rattle.message_rules.specs.Rules.{known_command}
 use Rattle.message_rules.specs.declared.accessors.SourceId.{SourceId}
-use Rattle.message_reader.specs.declared.Answer.{Answer}
-use Rattle.message_reader.specs.declared.Answer.TheVariants as reader
-use Rattle.message_reader.specs.Reading.{read_message}
+use Rattle.std.specs.Prelude.{Ok, Err}
+use Rattle.message_reader.specs.Reading.{Answer, read_message}
 use Rattle.message_rules.specs.Accessors.{source_of, options_of}
 use Rattle.session_table.specs.declared.record.Session.{Session}
 use Rattle.session_table.specs.Source.{same_bytes}
@@ -19,21 +17,9 @@ use Rattle.session_step.proofs.Laws.Runs.{source_stays}
 use Rattle.session_step.specs.Step.{step_of}
 use Rattle.session_step.specs.Message.{after_read, on_message}
 use Rattle.session_layout.specs.SessionLayout.{session_of}
-use Rattle.session_layout.proofs.Laws.SessionLayout.{beq_true, bytes_same}
-use Rattle.session_calls.specs.SessionCalls.{SourceStays, step_result, short_step, result_on, source_in, lent_enough, session_step, session_message, LentSourceUnseen}
-
--- ---- a short record or Source ID, or a step
-
-module _ (xs : List ℕ) (event : ℕ) (source : List ℕ) (options : ℕ) where
-  pub step_short : lent_enough (length xs) event source ≡ false → session_step xs event source options ≡ step_result short_step xs
-  unfolding session_step
-  step_short e = simp e
-
-  pub step_taken
-      : lent_enough (length xs) event source ≡ true
-      → session_step xs event source options ≡ result_on (step_of (session_of xs) event (source_in source) options) xs
-  unfolding session_step
-  step_taken e = simp e
+use Rattle.session_table.proofs.Laws.Source.{same_itself}
+use Rattle.std.specs.Cmp.{booleans_Decides}
+use Rattle.session_calls.specs.SessionCalls.{SourceStays, source_in, lent_enough, session_step, LentSourceUnseen}
 
 -- a Source ID beside no message
 enough_unseen : (lent event : ℕ) (source : List ℕ) → known_command event ≡ false → lent_enough lent event source ≡ leb 19 lent
@@ -55,15 +41,6 @@ lent_source_unseen xs event a b options e =
     = unseen.source_unseen (session_of xs) event (source_in a) (source_in b) options e in
     rw (enough, same)
 
-module _ (xs bytes : List ℕ) where
-  pub message_short : length xs < 19 → session_message xs bytes ≡ step_result short_step xs
-  unfolding session_message
-  message_short l = simp (lt-leb 19 (length xs) l)
-
-  pub message_taken : 19 ≤ length xs → session_message xs bytes ≡ result_on (on_message (session_of xs) bytes) xs
-  unfolding session_message
-  message_taken h = simp (le-leb 19 (length xs) h)
-
 -- ---- the same session
 
 -- what a step makes of a session, by an event and by a message
@@ -76,8 +53,8 @@ unfolding on_message
 message_stays s bytes = by (read_message bytes)
   where
     by : (a : Answer) → SourceStays s (after_read bytes s a).session
-    by (reader.Accepted m) = event_stays s m.command (source_of bytes m) (options_of bytes m)
-    by (reader.Refused st place) = λ h. refl
+    by (Ok m) = event_stays s m.command (source_of bytes m) (options_of bytes m)
+    by (Err r) = λ h. refl
 
 -- the flag then decides on the Source ID
 pub flag_decides
@@ -87,6 +64,6 @@ flag_decides a b h = by (beq a.source.present b.source.present) refl
   where
     by : (v : Bool) → beq a.source.present b.source.present ≡ v → v ≡ v && same_bytes a.source.bytes b.source.bytes
     by true e =
-        let same : a.source ≡ b.source = h (beq_true a.source.present b.source.present e) in
-        sym (subst (λ (x : SourceId). same_bytes a.source.bytes x.bytes ≡ true) same (bytes_same a.source.bytes))
+        let same : a.source ≡ b.source = h ((booleans_Decides a.source.present b.source.present).0 e) in
+        sym (subst (λ (x : SourceId). same_bytes a.source.bytes x.bytes ≡ true) same (same_itself a.source.bytes))
     by false e = refl

@@ -1,26 +1,28 @@
 -- What is written of a session reads back; sessions that are the same are equal. Assumes nothing.
 use Prim.Native.Nat.{ℕ, ◌+◌, ◌≤◌, ◌<◌}
 use mathlib.Core.Path.{◌≡◌, refl, sym, ap, ◌∙◌}
-use mathlib.Core.Bool.{Bool, true, false, beq}
+use mathlib.Core.Bool.{beq}
 use mathlib.Core.List.{List, [], ◌++◌, append-nil}
 use native.Mathlib.Omega.{arith}
+use borrow.Author.Rules.{rules}
 use borrow.Author.Tests.{eqb-true, eq-eqb}
 use lib.Dec.{eqb}
-use lib.ListN.{length, get_or, drop, replicate, length-append, drop_of_length-le}
-use lib.Seq.{take_at, ext_get_or}
+use lib.ListN.{length, drop, replicate, length-append, drop_of_length-le}
+use lib.Seq.{take_at}
+use Rattle.std.specs.Cmp.{booleans_Decides, bool_eq_equiv}
 use Rattle.wire.specs.Splice.{splice}
 use Rattle.scan.specs.Bytes.{copied}
 use Rattle.session_table.specs.declared.record.State.{State}
 use Rattle.session_table.specs.declared.record.State.TheVariants as state
 use Rattle.session_table.specs.declared.record.Session.{Session}
-use Rattle.session_table.specs.Source.{same_at, same_bytes}
 use Rattle.wire.specs.Laid.{laid}
 use Rattle.wire.specs.Layout.{flag}
 use Rattle.wire.specs.LittleEndian.{bytes}
 use Rattle.wire.specs.Number.{bytes_in}
-use Rattle.session_layout.specs.SessionLayout.{state_of, state_number, id_at, session_bytes, session_of, same_session, SessionReadsBack, SameIsEqual, SameAsItself}
-use Rattle.wire.proofs.Laws.Below.{all_below_lem, below_all}
-use Rattle.wire.proofs.Laws.Bool.{impossible, both}
+use Rattle.session_layout.specs.SessionLayout.{id_at, session_bytes, session_of, same_session, SessionReadsBack, SameIsEqual, SameAsItself}
+use Rattle.session_table.specs.Record.{state_of, state_number}
+use Rattle.session_table.proofs.Laws.Source.{same_itself, same_decides}
+use Rattle.wire.proofs.Laws.Bool.{both}
 use Rattle.wire.proofs.Laws.Laid.{laid_fits}
 use Rattle.wire.proofs.Laws.Layout.{Begins, laid_begins, before_part, before, number_in, flag_in}
 
@@ -74,25 +76,6 @@ session_reads_back s xs o i h =
 
 -- ---- the same session
 
-pub beq_true : (a b : Bool) → beq a b ≡ true → a ≡ b
-beq_true true true e = refl
-beq_true true false e = impossible (cc)
-beq_true false true e = impossible (cc)
-beq_true false false e = refl
-
-beq_same : (a : Bool) → beq a a ≡ true
-beq_same true = refl
-beq_same false = refl
-
-bytes_equal : (a b : List ℕ) → length a ≡ 16 → length b ≡ 16 → same_bytes a b ≡ true → a ≡ b
-unfolding same_bytes
-bytes_equal a b l m e =
-    ext_get_or 0 a b (l ∙ sym m) (λ i h. eqb-true (get_or a i 0) (get_or b i 0) (below_all (same_at a b) 16 e i (omega arith)))
-
-pub bytes_same : (bs : List ℕ) → same_bytes bs bs ≡ true
-unfolding same_bytes
-bytes_same bs = all_below_lem (same_at bs bs) 16 (λ k l. eq-eqb (get_or bs k 0) (get_or bs k 0) refl)
-
 pub same_is_equal : SameIsEqual
 unfolding SameIsEqual same_session
 same_is_equal a b l m e =
@@ -102,12 +85,9 @@ same_is_equal a b l m e =
     let state : a.state ≡ b.state
     = sym (state_back a.state) ∙ ap state_of (eqb-true (state_number a.state) (state_number b.state) h.0) ∙ state_back b.state in
     let options : a.options ≡ b.options = eqb-true a.options b.options i.0 in
-    let present : a.source.present ≡ b.source.present = beq_true a.source.present b.source.present j.0 in
-    let id : a.source.bytes ≡ b.source.bytes = bytes_equal a.source.bytes b.source.bytes l m j.1 in
-    ap {B = Session} (λ (x : State). record { state = x; options = a.options; source = a.source }) state
-    ∙ ap {B = Session} (λ (x : ℕ). record { state = b.state; options = x; source = a.source }) options
-    ∙ ap {B = Session} (λ (x : Bool). record { state = b.state; options = b.options; source = record { present = x; bytes = a.source.bytes } }) present
-    ∙ ap {B = Session} (λ (x : List ℕ). record { state = b.state; options = b.options; source = record { present = b.source.present; bytes = x } }) id
+    let present : a.source.present ≡ b.source.present = (booleans_Decides a.source.present b.source.present).0 j.0 in
+    let id : a.source.bytes ≡ b.source.bytes = (same_decides a.source.bytes b.source.bytes l m).0 j.1 in
+    search rules
 
 pub same_as_itself : SameAsItself
 unfolding SameAsItself same_session
@@ -115,6 +95,6 @@ same_as_itself s =
     simp (
       eq-eqb (state_number s.state) (state_number s.state) refl,
       eq-eqb s.options s.options refl,
-      beq_same s.source.present,
-      bytes_same s.source.bytes,
+      bool_eq_equiv.refl s.source.present,
+      same_itself s.source.bytes,
     )

@@ -5,16 +5,20 @@ use mathlib.Core.List.{List, [], ◌∷◌}
 use mathlib.Core.Logic.{◌⊎◌, inl, inr}
 use mathlib.Core.Bool.{Bool, true, false, cond, ◌&&◌, ◌||◌}
 use borrow.Author.Tests.{eqb-true}
+use Rattle.std.proofs.Math.Bool.{and-true, or_assoc}
 use lib.Dec.{eqb}
-use Rattle.wire.specs.declared.status.Status.TheVariants as status
-use Rattle.wire.specs.Status.{number_of}
+use Rattle.std.specs.Prelude.{Err, is_ok}
+use Rattle.wire.specs.declared.status.Refusal.{Refusal}
+use Rattle.wire.specs.declared.status.Refusal.TheVariants as refusal
+use Rattle.wire.specs.declared.status.Refused.{Refused}
+use Rattle.wire.specs.Status.{refusal_number, refused_at}
 use Rattle.wire.proofs.Laws.Bool.{impossible, either, not_both, both}
 use Rattle.message_rules.specs.declared.accessors.SourceId.{SourceId}
 use Rattle.session_table.specs.declared.record.State.{State}
 use Rattle.session_table.specs.declared.record.State.TheVariants as state
 use Rattle.session_table.specs.declared.record.Session.{Session}
 use Rattle.session_table.specs.declared.table.Next.{Next}
-use Rattle.session_table.specs.declared.table.Next.TheVariants.{NoEvent, Unexpected, CheckPin, PinOrReady, ToHandshake, ToReadyWait, ToProjecting, ToClosed}
+use Rattle.session_table.specs.declared.table.Next.TheVariants.{NoEvent, Unexpected, CheckPin, PinOrReady, To}
 use Rattle.message_rules.specs.Accessors.{no_source}
 use Rattle.session_table.specs.Record.{fresh_session, is_open}
 use Rattle.session_table.specs.Source.{carried, other_source}
@@ -25,14 +29,6 @@ use Rattle.session_step.specs.Step.{wants_pin, pin_or_ready, options_from, optio
 use Rattle.session_step.specs.Runs.{Event, stepped, next, run, is_accepted, first_source, pin_right}
 use Rattle.session_step.specs.Theorems.{ClosedRefuses, ClosedForGood, RefusalKeeps, FirstIsKept, KeptForGood, OtherChangesNothing, ReachedByReady, PinBeforeProjecting}
 use Rattle.session_step.proofs.Laws.Step.{carried_event, step_other}
-
-and_true : (b : Bool) → b && true ≡ b
-and_true true = refl
-and_true false = refl
-
-or_assoc : (a b c : Bool) → (a || b) || c ≡ a || (b || c)
-or_assoc true b c = refl
-or_assoc false b c = refl
 
 abbrev entry : Session → Event → Next
 entry s e = table s.state e.number
@@ -45,9 +41,9 @@ takes n check s e = accepted s (state_after n s.state (wants_pin s.options)) che
 
 -- the ways of a step: no such event, another source, unexpected, or taken
 data Way (s : Session) (e : Event) : Type 0 where
-  no_event : stepped s e ≡ refused status.UnknownKind 0 s → Way s e
-  other : is_open s.state ≡ true → stepped s e ≡ refused status.OtherSource 0 s → Way s e
-  unexpected : stepped s e ≡ refused status.UnexpectedEvent 0 (closed s) → Way s e
+  no_event : stepped s e ≡ refused refusal.UnknownKind 0 s → Way s e
+  other : is_open s.state ≡ true → stepped s e ≡ refused refusal.OtherSource 0 s → Way s e
+  unexpected : stepped s e ≡ refused refusal.UnexpectedEvent 0 (closed s) → Way s e
   taken : is_event e.number ≡ true → is_taken (entry s e) ≡ true → (check : Bool) → stepped s e ≡ takes (entry s e) check s e → Way s e
 
 entered : (s : Session) (e : Event) (n : Next) → is_event e.number ≡ true → entry s e ≡ n → stepped s e ≡ follows n s e → Way s e
@@ -56,10 +52,7 @@ entered s e NoEvent known p q = no_event q
 entered s e Unexpected known p q = unexpected q
 entered s e CheckPin known p q = taken known (ap is_taken p) true (q ∙ sym (ap (λ (n : Next). takes n true s e) p))
 entered s e PinOrReady known p q = taken known (ap is_taken p) false (q ∙ sym (ap (λ (n : Next). takes n false s e) p))
-entered s e ToHandshake known p q = taken known (ap is_taken p) false (q ∙ sym (ap (λ (n : Next). takes n false s e) p))
-entered s e ToReadyWait known p q = taken known (ap is_taken p) false (q ∙ sym (ap (λ (n : Next). takes n false s e) p))
-entered s e ToProjecting known p q = taken known (ap is_taken p) false (q ∙ sym (ap (λ (n : Next). takes n false s e) p))
-entered s e ToClosed known p q = taken known (ap is_taken p) false (q ∙ sym (ap (λ (n : Next). takes n false s e) p))
+entered s e (To t) known p q = taken known (ap is_taken p) false (q ∙ sym (ap (λ (n : Next). takes n false s e) p))
 
 way : (s : Session) (e : Event) → Way s e
 unfolding step_of other_source
@@ -108,25 +101,32 @@ closed_for_good s (e ∷ l) c = rw (closed_next s e c) (closed_for_good s l c)
 -- an event is accepted exactly if it goes the last way
 taken_accepted : (s : Session) (e : Event) (n : Next) (check : Bool) → stepped s e ≡ takes n check s e → is_accepted s e ≡ true
 unfolding accepted
-taken_accepted s e n check q = ap (λ (r : Stepped). eqb (number_of r.answer.status) 0) q
+taken_accepted s e n check q = ap (λ (r : Stepped). is_ok r.answer) q
 
 -- what a refused step answers and leaves
-abbrev Kept : Session → Stepped → Type 0
-Kept s r = r ≡ refused r.answer.status 0 (cond (eqb (number_of r.answer.status) 14 && is_open s.state) (closed s) s)
+abbrev Kept : Session → Refused → Stepped → Type 0
+Kept s r x = x ≡ refused r.refusal 0 (cond (eqb (refusal_number r.refusal) 14 && is_open s.state) (closed s) s)
 
 pub refusal_keeps : RefusalKeeps
 unfolding RefusalKeeps
-refusal_keeps s e r = by (way s e)
+refusal_keeps s e r a = by (way s e)
   where
     closes : is_open s.state ≡ true ⊎ is_open s.state ≡ false → closed s ≡ cond (is_open s.state) (closed s) s
     closes (inl o) = simp o
     closes (inr o) = simp o (closed_same s (is_closed_lem s.state o))
 
-    by : Way s e → Kept s (stepped s e)
-    by (no_event q) = subst (Kept s) (sym q) refl
-    by (other o q) = subst (Kept s) (sym q) refl
-    by (unexpected q) = subst (Kept s) (sym q) (ap (refused status.UnexpectedEvent 0) (closes (either (is_open s.state))))
-    by (taken known t check q) = never (sym (taken_accepted s e (entry s e) check q) ∙ r)
+    at : (k : Refusal) (t : Session) → stepped s e ≡ refused k 0 t
+        → t ≡ cond (eqb (refusal_number k) 14 && is_open s.state) (closed s) s → Kept s r (stepped s e)
+    at k t q h =
+        let given : Err r ≡ Err (refused_at k 0) = sym a ∙ ap (λ (x : Stepped). x.answer) q in
+        let same : r ≡ refused_at k 0 = cc in
+        rw same (q ∙ ap (refused k 0) h)
+
+    by : Way s e → Kept s r (stepped s e)
+    by (no_event q) = at refusal.UnknownKind s q refl
+    by (other o q) = at refusal.OtherSource s q refl
+    by (unexpected q) = at refusal.UnexpectedEvent (closed s) q (closes (either (is_open s.state)))
+    by (taken known t check q) = never (sym (taken_accepted s e (entry s e) check q) ∙ ap is_ok a)
 
 -- what becomes of the Source ID
 source_next
@@ -134,9 +134,9 @@ source_next
 unfolding accepted
 source_next s e = by (way s e)
   where
-    at : (r : Stepped) → stepped s e ≡ r → r.session.source ≡ cond (eqb (number_of r.answer.status) 0) (source_after s.source e.number e.source) s.source
+    at : (r : Stepped) → stepped s e ≡ r → r.session.source ≡ cond (is_ok r.answer) (source_after s.source e.number e.source) s.source
         → (next s e).source ≡ cond (is_accepted s e) (source_after s.source e.number e.source) s.source
-    at r q h = subst (λ (x : Stepped). x.session.source ≡ cond (eqb (number_of x.answer.status) 0) (source_after s.source e.number e.source) s.source) (sym q) h
+    at r q h = subst (λ (x : Stepped). x.session.source ≡ cond (is_ok x.answer) (source_after s.source e.number e.source) s.source) (sym q) h
 
     by : Way s e → (next s e).source ≡ cond (is_accepted s e) (source_after s.source e.number e.source) s.source
     by (no_event q) = at _ q refl
@@ -223,7 +223,7 @@ unfolding OtherChangesNothing ClosedRefuses other_source
 other_changes_nothing s e kept c differs = let r = by (either (is_open s.state)) in (r, ap (λ (r : Stepped). r.session) r)
   where
     by : is_open s.state ≡ true ⊎ is_open s.state ≡ false
-        → stepped s e ≡ refused (cond (is_open s.state) status.OtherSource status.UnexpectedEvent) 0 s
+        → stepped s e ≡ refused (cond (is_open s.state) refusal.OtherSource refusal.UnexpectedEvent) 0 s
     by (inl o) = step_other s e.number e.source e.options (simp (o, c, kept, differs)) ∙ simp o
     by (inr o) = closed_refuses s e (is_closed_lem s.state o) (carried_event e.number e.source c) ∙ simp o
 
@@ -307,7 +307,7 @@ sound_next s e right h = by (way s e)
     by (other o q) = subst (λ (r : Stepped). soundly r.session (right || again) ≡ true) (sym q) (more_sound s.state _ right again h)
     by (unexpected q) = subst (λ (r : Stepped). soundly r.session (right || again) ≡ true) (sym q) refl
     by (taken known t check q) =
-        let a : again ≡ eqb e.number 8 = rw (taken_accepted s e (entry s e) check q) (and_true (eqb e.number 8)) in
+        let a : again ≡ eqb e.number 8 = rw (taken_accepted s e (entry s e) check q) (and-true (eqb e.number 8)) in
         let pin = pin_after_lem s.state e.number s.options e.options in
         let stays = implied (soundly s right && is_taken (entry s e)) _ (stays_sound_lem s.state e.number (wants_pin s.options) (wants_pin e.options) right known) (simp (h, t)) in
         subst (λ (r : Stepped). soundly r.session (right || again) ≡ true) (sym q) (rw (pin, a) stays)

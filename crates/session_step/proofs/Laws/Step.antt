@@ -1,20 +1,19 @@
 -- The step, by the answers of its tests. Assumes nothing.
 use Prim.Native.Nat.{ℕ}
-use mathlib.Core.Path.{◌≡◌, refl}
-use mathlib.Core.Bool.{Bool, true, false, not, cond, ◌&&◌}
+use mathlib.Core.Path.{◌≡◌}
+use mathlib.Core.Bool.{true, not, ◌&&◌}
 use native.Mathlib.Omega.{arith}
 use borrow.Author.Tests.{le-leb, leb-true}
 use lib.Dec.{leb}
 use Rattle.message_rules.specs.Rules.{known_command}
 use Rattle.wire.proofs.Laws.Bool.{both}
-use Rattle.wire.specs.declared.status.Status.TheVariants as status
+use Rattle.wire.specs.declared.status.Refusal.TheVariants as refusal
 use Rattle.message_rules.specs.declared.accessors.SourceId.{SourceId}
 use Rattle.session_table.specs.declared.record.Session.{Session}
-use Rattle.session_table.specs.declared.table.Next.TheVariants as next
 use Rattle.session_table.specs.Record.{is_open}
 use Rattle.session_table.specs.Source.{same_bytes, carried, other_source}
-use Rattle.session_table.specs.Table.{table, is_event, expected_of}
-use Rattle.session_step.specs.Step.{refused, follow, step_of}
+use Rattle.session_table.specs.Table.{is_event}
+use Rattle.session_step.specs.Step.{refused, step_of}
 
 -- a message is an event
 pub carried_event : (event : ℕ) (x : SourceId) → carried event x ≡ true → is_event event ≡ true
@@ -31,19 +30,6 @@ other_event s event x e =
     carried_event event x (both (carried event x) (s.source.present && not (same_bytes s.source.bytes x.bytes)) r).0
 
 pub step_other
-    : (s : Session) (event : ℕ) (x : SourceId) (options : ℕ) → other_source s event x ≡ true → step_of s event x options ≡ refused status.OtherSource 0 s
+    : (s : Session) (event : ℕ) (x : SourceId) (options : ℕ) → other_source s event x ≡ true → step_of s event x options ≡ refused refusal.OtherSource 0 s
 unfolding step_of
 step_other s event x options e = simp (other_event s event x e, e)
-
-pub step_table
-    : (s : Session) (event : ℕ) (x : SourceId) (options : ℕ) → other_source s event x ≡ false
-    → step_of s event x options ≡ follow (expected_of event s.state) s event x options
-unfolding step_of expected_of
-step_table s event x options e = by (is_event event) refl
-  where
-    by : (b : Bool) → is_event event ≡ b
-        → cond (not (is_event event)) (refused status.UnknownKind 0 s)
-        (cond (other_source s event x) (refused status.OtherSource 0 s) (follow (table s.state event) s event x options))
-        ≡ follow (cond (is_event event) (table s.state event) next.NoEvent) s event x options
-    by true p = simp (p, e)
-    by false p = simp p

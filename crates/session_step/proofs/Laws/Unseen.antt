@@ -10,7 +10,7 @@ use Rattle.session_table.specs.declared.record.State.{State}
 use Rattle.session_table.specs.declared.record.State.TheVariants as state
 use Rattle.session_table.specs.declared.record.Session.{Session}
 use Rattle.session_table.specs.declared.table.Next.{Next}
-use Rattle.session_table.specs.declared.table.Next.TheVariants.{NoEvent, Unexpected, CheckPin, PinOrReady, ToHandshake, ToReadyWait, ToProjecting, ToClosed}
+use Rattle.session_table.specs.declared.table.Next.TheVariants.{NoEvent, Unexpected, CheckPin, PinOrReady, To}
 use Rattle.session_table.specs.Source.{carried, other_source}
 use Rattle.session_table.specs.Table.{table}
 use Rattle.session_step.specs.Step.{pin_or_ready, options_from, options_after, source_after, accepted, follow, step_of}
@@ -24,10 +24,7 @@ followed NoEvent s event x y a b h = refl
 followed Unexpected s event x y a b h = refl
 followed CheckPin s event x y a b h = h s.state true
 followed PinOrReady s event x y a b h = h (pin_or_ready s.options) false
-followed ToHandshake s event x y a b h = h state.Handshake false
-followed ToReadyWait s event x y a b h = h state.ReadyWait false
-followed ToProjecting s event x y a b h = h state.Projecting false
-followed ToClosed s event x y a b h = h state.Closed false
+followed (To t) s event x y a b h = h t false
 
 -- so does a step, but for the test of another source
 stepped_same

@@ -5,14 +5,14 @@ use mathlib.Core.Bool.{Bool, true, false, not, cond, ◌&&◌, ◌||◌}
 use native.Mathlib.Omega.{arith}
 use borrow.Author.Tests.{leb-true}
 use lib.Dec.{eqb, leb}
+use Rattle.std.proofs.lemmas.List.{get_or-replicate}
 use Rattle.wire.specs.Below.{all_below}
 use Rattle.wire.proofs.Laws.Below.{below_all}
 use Rattle.wire.proofs.Laws.Bool.{impossible, both}
 use Rattle.session_table.specs.declared.record.State.{State}
 use Rattle.session_table.specs.declared.record.State.TheVariants as state
 use Rattle.session_table.specs.declared.table.Next.{Next}
-use Rattle.session_table.specs.declared.table.Next.TheVariants.{NoEvent, Unexpected, CheckPin, PinOrReady, ToHandshake, ToReadyWait, ToProjecting, ToClosed}
-use Rattle.session_table.specs.Record.{is_open}
+use Rattle.session_table.specs.declared.table.Next.TheVariants.{NoEvent, Unexpected, CheckPin, PinOrReady, To}
 use Rattle.session_table.specs.Table.{table, is_event}
 
 -- whether a test holds of both answers, and of all states
@@ -72,46 +72,18 @@ state_after NoEvent s pin = s
 state_after Unexpected s pin = state.Closed
 state_after CheckPin s pin = s
 state_after PinOrReady s pin = cond pin state.PinWait state.ReadyWait
-state_after ToHandshake s pin = state.Handshake
-state_after ToReadyWait s pin = state.ReadyWait
-state_after ToProjecting s pin = state.Projecting
-state_after ToClosed s pin = state.Closed
+state_after (To t) s pin = t
 
 abbrev pub is_taken : Next → Bool
 is_taken NoEvent = false
 is_taken Unexpected = false
 is_taken CheckPin = true
 is_taken PinOrReady = true
-is_taken ToHandshake = true
-is_taken ToReadyWait = true
-is_taken ToProjecting = true
-is_taken ToClosed = true
+is_taken (To t) = true
 
 -- in Closed nothing is expected
-abbrev is_unexpected : Next → Bool
-is_unexpected NoEvent = false
-is_unexpected Unexpected = true
-is_unexpected CheckPin = false
-is_unexpected PinOrReady = false
-is_unexpected ToHandshake = false
-is_unexpected ToReadyWait = false
-is_unexpected ToProjecting = false
-is_unexpected ToClosed = false
-
-unexpected_is : (n : Next) → is_unexpected n ≡ true → n ≡ Unexpected
-unexpected_is NoEvent e = cc
-unexpected_is Unexpected e = refl
-unexpected_is CheckPin e = cc
-unexpected_is PinOrReady e = cc
-unexpected_is ToHandshake e = cc
-unexpected_is ToReadyWait e = cc
-unexpected_is ToProjecting e = cc
-unexpected_is ToClosed e = cc
-
 pub closed_row : (event : ℕ) → is_event event ≡ true → table state.Closed event ≡ Unexpected
-unfolding all_states all_below
-closed_row event known =
-    unexpected_is (table state.Closed event) (each (λ s event. is_open s || is_unexpected (table s event)) refl state.Closed event known)
+closed_row event known = get_or-replicate 11 event Unexpected Unexpected (event_small event known)
 
 -- Projecting is reached by a Source Ready that is taken
 unfoldable pub by_ready : State → ℕ → Bool → Bool
