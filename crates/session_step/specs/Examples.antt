@@ -24,7 +24,9 @@ unfolding step_of is_event other_source carried accepted source_after options_fr
 p12 = refl
 
 -- a number that is no event is 4, in Closed too
-pub no_event : step_of (record { state = state.Closed; options = 0; source = no_source }) 11 no_source 0 ≡ refused refusal.UnknownKind 0 (record { state = state.Closed; options = 0; source = no_source })
+pub no_event
+    : step_of (record { state = state.Closed; options = 0; source = no_source }) 11 no_source 0
+    ≡ refused refusal.UnknownKind 0 (record { state = state.Closed; options = 0; source = no_source })
 unfolding step_of is_event other_source
 no_event = refl
 

@@ -1,6 +1,6 @@
 // The session record that a host keeps for a connection.
 ghost use Rattle.std.specs.Prelude.{◌≡◌};
-ghost use Rattle.session_table.specs.Record.{fresh_session};
+ghost use Rattle.session_table.specs.Record.{fresh_session, state_number, state_of};
 
 use message_rules::accessors::SourceId;
 
@@ -16,9 +16,6 @@ pub enum State {
 
 // A host keeps a state by its number: 0 to 4 in the order above, and Closed as 5.
 impl From<State> for u8 {
-    ghost use Rattle.std.specs.Prelude.{◌≡◌};
-    ghost use Rattle.session_table.specs.Record.{state_number};
-
     ghost from_gives = { λ state number. number ≡ state_number state };
 
     fn from(state: State) -> u8 {
@@ -35,9 +32,6 @@ impl From<State> for u8 {
 
 // Any greater number is Closed too.
 impl From<u8> for State {
-    ghost use Rattle.std.specs.Prelude.{◌≡◌};
-    ghost use Rattle.session_table.specs.Record.{state_of};
-
     ghost from_gives = { λ number state. state ≡ state_of number };
 
     #[tactic(auto, unfolding(crate::specs::Record::state_of))]

@@ -30,7 +30,8 @@ use Rattle.session_step.specs.Message.{after_read, on_message}
 use Rattle.session_layout.specs.SessionLayout.{session_of, same_session, SameAsItself}
 use Rattle.session_table.specs.Record.{state_number}
 use Rattle.session_layout.proofs.Laws.SessionLayout.{same_as_itself}
-use Rattle.session_calls.specs.SessionCalls.{step_result, short_step, answer_of, bytes_left, result_on, source_in, lent_enough, session_step, session_message, KeptIfRefused, StepRefusalKeeps, MessageRefusalKeeps}
+use Rattle.session_calls.specs.SessionCalls.{step_result, short_step, answer_of, bytes_left, result_on, source_in, lent_enough, session_step, session_message}
+use Rattle.session_calls.specs.SessionCalls.{KeptIfRefused, StepRefusalKeeps, MessageRefusalKeeps}
 
 -- the number of an open state is not that of Closed
 open_number : (st : State) → is_open st ≡ true → eqb (state_number st) (state_number state.Closed) ≡ false
