@@ -4,6 +4,7 @@
 #![tactic(auto)]
 
 use cursor_fragment::Fragment;
+use cursor_fragment::start::Start;
 use cursor_host::shown;
 use cursor_packet::position;
 use cursor_picture::Picture;
@@ -15,19 +16,17 @@ fn print_refused(rt: &HostRuntime, refused: Refused) -> io::Result<()> {
     print!(rt; " refused {} {}", refused.refusal.number(), refused.place)
 }
 
+// A fragment's fields; the last three are a start's own, 0 where it is none.
 fn print_fragment(rt: &HostRuntime, fragment: Fragment) -> io::Result<()> {
     let Fragment {
         sequence,
         total,
         id,
         offset,
-        starts,
         start,
     } = fragment;
-    print!(rt;
-        " accepted {sequence} {total} {id} {offset} {}",
-        starts as u8
-    )?;
+    print!(rt; " accepted {sequence} {total} {id} {offset} {}", start.is_some() as u8)?;
+    let start = start.unwrap_or(Start::none());
     print!(rt; " {} {} {}", start.image_type, start.hot_x, start.hot_y)
 }
 

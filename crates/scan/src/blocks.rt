@@ -25,6 +25,7 @@ pub(crate) fn skip<F: Fn(usize) -> u8>(from: usize, n: usize, size: usize, mark:
     ensures within { result ≤ n }
     ensures skipped { NoneMarked (F.post mark.now) from result }
 {
+    // A while: a turn goes on by a block, and the answer is where it stops.
     let mut k = from;
     while size <= n - k {
         if mark(k) != 0 {
