@@ -1,4 +1,5 @@
 // What a cursor limits value says (003 section 1.7).
+use std::fmt;
 
 // xor-support: whether the sink can do the XOR operation of monochrome and color mask cursors.
 #[derive(Clone, Copy, PartialEq, Eq)]
@@ -21,4 +22,25 @@ pub struct Limits {
 pub enum Value {
     NotSupported,
     Supported(Limits),
+}
+
+impl fmt::Display for Xor {
+    fn fmt<W: fmt::Write>(&self, f: &mut fmt::Formatter<W>) -> fmt::Result {
+        match self {
+            Xor::None => write!(f, "none"),
+            Xor::Full => write!(f, "full"),
+        }
+    }
+}
+
+impl fmt::Display for Limits {
+    fn fmt<W: fmt::Write>(&self, f: &mut fmt::Formatter<W>) -> fmt::Result {
+        let Limits {
+            xor,
+            width,
+            height,
+            port,
+        } = *self;
+        write!(f, "xor {xor} width {width} height {height} port {port}")
+    }
 }
