@@ -25,7 +25,10 @@ fn print_fragment(rt: &HostRuntime, fragment: Fragment) -> io::Result<()> {
         offset,
         start,
     } = fragment;
-    print!(rt; " accepted {sequence} {total} {id} {offset} {}", start.is_some() as u8)?;
+    print!(rt;
+        " accepted {sequence} {total} {id} {offset} {}",
+        start.is_some() as u8
+    )?;
     let start = start.unwrap_or(Start::none());
     print!(rt; " {} {} {}", start.image_type, start.hot_x, start.hot_y)
 }
@@ -57,8 +60,7 @@ fn call_position(rt: &HostRuntime, packet: &[u8]) -> io::Result<()> {
     print!(rt; "pointer")?;
     match cursor_pointer::position(Pointer::fresh(), packet) {
         Ok(pointer) => {
-            print!(rt; " accepted")?;
-            shown::pointer(rt, pointer)?;
+            print!(rt; " accepted{}", shown::Pointer(pointer))?;
         }
         Err(refused) => print_refused(rt, refused)?,
     }
@@ -78,10 +80,9 @@ fn call_store(rt: &HostRuntime, packet: &[u8]) -> io::Result<()> {
         &mut marks,
     ) {
         Ok(stored) => {
-            print!(rt; " accepted")?;
-            shown::pointer(rt, stored.pointer)?;
-            print!(rt; " picture")?;
-            shown::picture(rt, stored.picture)?;
+            let pointer = shown::Pointer(stored.pointer);
+            let picture = shown::Picture(stored.picture);
+            print!(rt; " accepted{pointer} picture{picture}")?;
         }
         Err(refused) => print_refused(rt, refused)?,
     }
