@@ -3,13 +3,14 @@
 
 pub mod shown;
 
-ghost use Rattle.std.specs.Prelude.{◌≡◌, replicate};
+ghost use Rattle.std.specs.Prelude.{◌≡◌, ◌<◌, replicate, IfErr};
 ghost use Rattle.cursor_pointer.specs.Pointer.{fresh_pointer};
 ghost use Rattle.cursor_picture.specs.Picture.{fresh_picture};
 ghost use Rattle.wire.specs.Laid.{laid};
 ghost use Rattle.cursor_layout.specs.PointerLayout.{pointer_length, pointer_bytes};
 ghost use Rattle.cursor_layout.specs.PictureLayout.{picture_length, picture_bytes};
 ghost use Rattle.cursor_calls.specs.CursorCalls.{after_position, cursor_position, after_store, cursor_store, cursor_complete};
+ghost use Rattle.cursor_host.specs.Complete.{asked_as};
 
 use cursor_layout::{picture_layout, pointer_layout};
 use host_answers::{Answer, Yes};
@@ -63,10 +64,12 @@ impl<const N: usize> Host<N> {
         )
     }
 
-    // Whether the opened picture is complete.
-    pub fn complete(&self) -> Yes
-        ensures { result ≡ cursor_complete self.now.picture self.now.image self.now.marks }
+    // Whether the opened picture is complete; a refusal is answered by its number.
+    pub fn complete(&self) -> Result<bool, u8>
+        ensures answer { asked_as result ≡ cursor_complete self.now.picture self.now.image self.now.marks }
+        ensures refusal { IfErr result (λ number. 0 < number) }
     {
-        cursor_calls::complete(&self.picture, &self.image, &self.marks)
+        let Yes { status, yes } = cursor_calls::complete(&self.picture, &self.image, &self.marks);
+        if status == 0 { Ok(yes) } else { Err(status) }
     }
 }

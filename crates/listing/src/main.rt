@@ -32,6 +32,14 @@ enum Verdict {
     Unread = 141,
 }
 
+impl From<Verdict> for u8 {
+    ghost from_gives = { λ verdict number. number ≡ verdict_number verdict };
+
+    fn from(verdict: Verdict) -> u8 {
+        verdict as u8
+    }
+}
+
 // Where the listing stands. Of the buffer's bytes, those from `from` to `to` are read and not listed yet; the first of them is at `place` of
 // the recording, and once the recording has `ended` no more follow. Of the lines, `used` bytes are not written yet. There is a verdict after
 // the last line, and after an error.
@@ -58,8 +66,8 @@ fn show(rest: &[u8], out: &mut [u8], state: State) -> State
     state.used = text::put_line(out, state.used, state.place, line);
     match line {
         Line::Message { command: _, size } => {
-            state.from = state.from + size;
-            state.place = std::num::wrapping_add_u64(state.place, size as u64);
+            state.from += size;
+            state.place = state.place.wrapping_add(size as u64);
         }
         Line::Refused { refusal: _ } => {
             state.verdict = Some(Verdict::Refused);
@@ -221,16 +229,10 @@ fn list_file(rt: &HostRuntime, path: &str) -> Verdict {
     }
 }
 
-fn number(verdict: Verdict) -> u8
-    ensures { result ≡ verdict_number verdict }
-{
-    verdict as u8
-}
-
 // Writes the verdict's number to a file, which it makes, or empties where it is there.
 fn write_verdict(rt: &HostRuntime, path: &str, verdict: Verdict) -> io::Result<()> {
     let mut file = fs::create(rt, path)?;
-    write!(file, "{}", number(verdict))
+    write!(file, "{}", u8::from(verdict))
 }
 
 // Writes the verdict to the file that the second argument names.

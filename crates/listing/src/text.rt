@@ -14,14 +14,13 @@ fn put(out: &mut [u8], at: usize, text: &[u8]) -> usize
     end
 }
 
-// Puts the two digits of a number below 100. They are one number of two bytes first, so that they are stored at once.
+// Puts the two digits of a number below 100.
 fn put_two(out: &mut [u8], at: usize, n: u64) -> usize
     requires { (n < 100) × (at + 2 ≤ length out.old) }
     ensures { Put out.old at (two_digits n) result out.new }
 {
-    let pair = 12336 + n / 10 + 256 * (n % 10);
-    out[at] = (pair % 256) as u8;
-    out[at + 1] = (pair / 256) as u8;
+    out[at] = 48 + (n / 10) as u8;
+    out[at + 1] = 48 + (n % 10) as u8;
     at + 2
 }
 

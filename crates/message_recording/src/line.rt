@@ -18,7 +18,7 @@ pub enum Line {
 pub fn first_line(bytes: &[u8]) -> Line
     ensures { result ≡ line_of bytes.now }
 {
-    if bytes.len() == 0 {
+    if bytes.is_empty() {
         return Line::End;
     }
     let size = needed(bytes);

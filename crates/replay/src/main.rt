@@ -8,7 +8,6 @@ ghost use Rattle.std.specs.Prelude.{◌<◌};
 
 use cursor_host::Host;
 use cursor_layout::{picture_layout, pointer_layout};
-use host_answers::Yes;
 use print::argument;
 use std::env::Env;
 use std::io::Read;
@@ -86,15 +85,9 @@ fn make(call: Call, packet: &[u8], host: &mut Host<40>) -> u8 {
         Call::Position => host.position(packet).status,
         Call::Store => host.store(packet).status,
         Call::Complete => match host.complete() {
-            Yes {
-                status: 0,
-                yes: true,
-            } => 101,
-            Yes {
-                status: 0,
-                yes: false,
-            } => 100,
-            Yes { status, yes: _ } => status,
+            Ok(true) => 101,
+            Ok(false) => 100,
+            Err(number) => number,
         },
     }
 }

@@ -5,15 +5,13 @@
 
 use cursor_host::{Host, shown};
 use cursor_layout::{picture_layout, pointer_layout};
-use host_answers::Yes;
 use std::io;
 use wire::number;
 
 fn position<const N: usize>(rt: &HostRuntime, host: &mut Host<N>, packet: &[u8]) -> io::Result<()> {
     let answer = host.position(packet);
-    print!(rt; "position {} pointer", answer.status)?;
-    shown::pointer(rt, pointer_layout::read(&host.pointer))?;
-    println!(rt; "")
+    let pointer = shown::Pointer(pointer_layout::read(&host.pointer));
+    println!(rt; "position {} pointer{pointer}", answer.status)
 }
 
 // The bytes at five places.
@@ -32,11 +30,12 @@ fn store<const N: usize>(
     places: [usize; 5],
 ) -> io::Result<()> {
     let answer = host.store(packet);
-    print!(rt; "store {} pointer", answer.status)?;
-    shown::pointer(rt, pointer_layout::read(&host.pointer))?;
-    print!(rt; " picture")?;
-    shown::picture(rt, picture_layout::read(&host.picture))?;
-    print!(rt; " bytes")?;
+    let pointer = shown::Pointer(pointer_layout::read(&host.pointer));
+    let picture = shown::Picture(picture_layout::read(&host.picture));
+    print!(rt;
+        "store {} pointer{pointer} picture{picture} bytes",
+        answer.status
+    )?;
     bytes_at(rt, &host.image, places)?;
     print!(rt; " marks")?;
     bytes_at(rt, &host.marks, places)?;
@@ -45,15 +44,9 @@ fn store<const N: usize>(
 
 fn complete<const N: usize>(rt: &HostRuntime, host: &Host<N>) -> io::Result<()> {
     match host.complete() {
-        Yes {
-            status: 0,
-            yes: true,
-        } => println!(rt; "complete yes"),
-        Yes {
-            status: 0,
-            yes: false,
-        } => println!(rt; "complete no"),
-        Yes { status, yes: _ } => println!(rt; "complete {status}"),
+        Ok(true) => println!(rt; "complete yes"),
+        Ok(false) => println!(rt; "complete no"),
+        Err(number) => println!(rt; "complete {number}"),
     }
 }
 

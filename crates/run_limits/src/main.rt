@@ -54,26 +54,12 @@ fn count(field: Field) -> usize
         .count()
 }
 
-fn show_limits(rt: &HostRuntime, limits: Limits) -> io::Result<()> {
-    let Limits {
-        xor,
-        width,
-        height,
-        port,
-    } = limits;
-    let word = match xor {
-        Xor::None => "none",
-        Xor::Full => "full",
-    };
-    println!(rt; "xor {word} width {width} height {height} port {port}")
-}
-
 // The text in quotes, and what it means.
 fn show(rt: &HostRuntime, text: &str) -> io::Result<()> {
     print!(rt; "\"{text}\" ")?;
     match cursor_limits::read(text.as_bytes()) {
         Ok(Value::NotSupported) => println!(rt; "not supported"),
-        Ok(Value::Supported(limits)) => show_limits(rt, limits),
+        Ok(Value::Supported(limits)) => println!(rt; "{limits}"),
         Err(refused) => println!(rt; "refused {}", refused.refusal.number()),
     }
 }

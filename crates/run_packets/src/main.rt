@@ -4,6 +4,7 @@
 #![tactic(auto)]
 
 use cursor_fragment::Fragment;
+use cursor_fragment::start::Start;
 use cursor_host::shown;
 use cursor_packet::position;
 use cursor_picture::Picture;
@@ -15,19 +16,20 @@ fn print_refused(rt: &HostRuntime, refused: Refused) -> io::Result<()> {
     print!(rt; " refused {} {}", refused.refusal.number(), refused.place)
 }
 
+// A fragment's fields; the last three are a start's own, 0 where it is none.
 fn print_fragment(rt: &HostRuntime, fragment: Fragment) -> io::Result<()> {
     let Fragment {
         sequence,
         total,
         id,
         offset,
-        starts,
         start,
     } = fragment;
     print!(rt;
         " accepted {sequence} {total} {id} {offset} {}",
-        starts as u8
+        start.is_some() as u8
     )?;
+    let start = start.unwrap_or(Start::none());
     print!(rt; " {} {} {}", start.image_type, start.hot_x, start.hot_y)
 }
 
@@ -58,8 +60,7 @@ fn call_position(rt: &HostRuntime, packet: &[u8]) -> io::Result<()> {
     print!(rt; "pointer")?;
     match cursor_pointer::position(Pointer::fresh(), packet) {
         Ok(pointer) => {
-            print!(rt; " accepted")?;
-            shown::pointer(rt, pointer)?;
+            print!(rt; " accepted{}", shown::Pointer(pointer))?;
         }
         Err(refused) => print_refused(rt, refused)?,
     }
@@ -79,10 +80,9 @@ fn call_store(rt: &HostRuntime, packet: &[u8]) -> io::Result<()> {
         &mut marks,
     ) {
         Ok(stored) => {
-            print!(rt; " accepted")?;
-            shown::pointer(rt, stored.pointer)?;
-            print!(rt; " picture")?;
-            shown::picture(rt, stored.picture)?;
+            let pointer = shown::Pointer(stored.pointer);
+            let picture = shown::Picture(stored.picture);
+            print!(rt; " accepted{pointer} picture{picture}")?;
         }
         Err(refused) => print_refused(rt, refused)?,
     }

@@ -26,6 +26,7 @@ pub(crate) fn skip<F: Fn(usize) -> u8>(from: usize, n: usize, size: usize, hit: 
     ensures within { result ≤ n }
     ensures skipped { NoneHit (F.post hit.now) from result }
 {
+    // A while: a turn goes on by a block, and the answer is where it stops.
     let mut k = from;
     while size <= n - k {
         if hit(k) != 0 {

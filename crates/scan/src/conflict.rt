@@ -20,6 +20,7 @@ fn any_by_blocks(marks: &[u8], old: &[u8], new: &[u8], n: usize) -> bool
     requires { (n ≤ length marks.now) × (n ≤ length old.now) × (n ≤ length new.now) }
     ensures { result ≡ some_below n (conflict_at marks.now old.now new.now) }
 {
+    // A while: a turn goes on by as many places as it skipped and compared.
     let mut k = 0;
     while k < n {
         let other = blocks::skip(k, n, 256, &|k: usize| old[k] ^ new[k]);

@@ -1,21 +1,7 @@
 // The cursor limits values of 003 section 4: the line as printed, the same in the grammar of section 1.7 (50,001 is C351 hex), and `none`.
 use crate::refused;
-use cursor_limits::value::{Limits, Value, Xor};
+use cursor_limits::value::Value;
 use std::io;
-
-fn supported(rt: &HostRuntime, limits: Limits) -> io::Result<()> {
-    let Limits {
-        xor,
-        width,
-        height,
-        port,
-    } = limits;
-    let word = match xor {
-        Xor::None => "none",
-        Xor::Full => "full",
-    };
-    println!(rt; " xor {word} width {width} height {height} port {port}")
-}
 
 fn show(rt: &HostRuntime, name: &str, text: &str) -> io::Result<()> {
     print!(rt; "{name}")?;
@@ -26,7 +12,7 @@ fn show(rt: &HostRuntime, name: &str, text: &str) -> io::Result<()> {
     }
     match limits_layout::read(&record) {
         Value::NotSupported => println!(rt; " not supported"),
-        Value::Supported(limits) => supported(rt, limits),
+        Value::Supported(limits) => println!(rt; " {limits}"),
     }
 }
 

@@ -3,7 +3,6 @@
 // (02 §2).
 use cursor_host::Host;
 use cursor_layout::{picture_layout, pointer_layout};
-use host_answers::Yes;
 use std::io;
 
 fn pointer(rt: &HostRuntime, host: &Host<512>) -> io::Result<()> {
@@ -33,15 +32,9 @@ fn position(rt: &HostRuntime, name: &str, host: &mut Host<512>, packet: &[u8]) -
 
 fn complete(rt: &HostRuntime, host: &Host<512>) -> io::Result<()> {
     match host.complete() {
-        Yes {
-            status: 0,
-            yes: true,
-        } => println!(rt; " complete yes"),
-        Yes {
-            status: 0,
-            yes: false,
-        } => println!(rt; " complete no"),
-        Yes { status, yes: _ } => println!(rt; " refused {status}"),
+        Ok(true) => println!(rt; " complete yes"),
+        Ok(false) => println!(rt; " complete no"),
+        Err(number) => println!(rt; " refused {number}"),
     }
 }
 

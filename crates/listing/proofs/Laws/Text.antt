@@ -1,5 +1,5 @@
 -- Digits, and texts one after the other. Assumes nothing.
-use Rattle.std.proofs.Common.{◌≡◌, ℕ, zero, suc, ◌+◌, ◌/◌, ◌%◌, ◌^◌, ◌<◌, ◌≤◌, cond, ltb, List, [], ◌∷◌, ◌++◌, length, take, set, refl, ap, ◌∙◌, append_assoc, add-one, arith, length-append, length-set, take-suc-set, le-ltb, lt-ltb}
+use Rattle.std.proofs.Common.{◌≡◌, ℕ, zero, suc, ◌+◌, ◌/◌, ◌%◌, ◌^◌, ◌<◌, ◌≤◌, cond, ltb, List, [], ◌∷◌, ◌++◌, length, take, set, ap, ◌∙◌, append_assoc, add-one, arith, length-append, take-suc-set, le-ltb, lt-ltb}
 use Rattle.wire.proofs.Laws.Bool.{by_test}
 use Rattle.listing.specs.Text.{decimal_to, decimal, two_digits, Put}
 
@@ -84,12 +84,3 @@ four_length n l h =
 -- one byte
 pub put_byte : (zs : List ℕ) (at b r : ℕ) → at < length zs → r ≡ at + 1 → Put zs at (b ∷ []) r (set zs at b)
 put_byte zs at b r h e = record { place = e; bytes = rw (e, add-one) (take-suc-set zs at b h) }
-
--- two bytes that are the two digits
-pub put_pair
-    : (zs : List ℕ) (at n x y : ℕ) → x ≡ 48 + n / 10 → y ≡ 48 + n % 10 → at + 2 ≤ length zs
-    → Put zs at (two_digits n) (at + 2) (set (set zs at x) (at + 1) y)
-put_pair zs at n x y first second l =
-    rw (← first, ← second)
-    (put_then (put_byte zs at x (at + 1) (omega arith) refl)
-    (put_byte (set zs at x) (at + 1) y (at + 2) (simp length-set (omega arith)) (omega arith)))

@@ -12,7 +12,7 @@ pub returns-in-Message : goal.returns-in-Message
 returns-in-Message c =
     let m = message_size _ _ _ (sym c.in-Message.ensures) in
     record {
-      state = rw (← c.in-Message.ensures, c.wrapping_add_u64.ensures.value) refl;
+      state = rw (← c.in-Message.ensures) refl;
       window = (omega (arith, m.1), refl);
       room = c.put_line.ensures.upper_bound;
       text = rw (← c.first_line-line.ensures) c.put_line.ensures.put;
