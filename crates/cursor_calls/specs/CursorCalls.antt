@@ -1,14 +1,11 @@
 -- The calls of the cursor stream: what each answers, and what every lent byte then is. Assumes nothing.
-use Rattle.std.specs.Prelude.{ℕ, ◌≡◌, Bool, cond, ◌&&◌, List, leb, length}
-use Rattle.wire.specs.declared.status.Status.TheVariants as status
+use Rattle.std.specs.Prelude.{ℕ, ◌≡◌, Bool, cond, ◌&&◌, List, leb, length, Result, Ok, Err}
+use Rattle.wire.specs.declared.status.Refusal.TheVariants as refusal
+use Rattle.wire.specs.declared.status.Refused.{Refused}
 use Rattle.cursor_pointer.specs.declared.Pointer.{Pointer}
-use Rattle.cursor_pointer.specs.declared.PointerAnswer.{PointerAnswer}
-use Rattle.cursor_pointer.specs.declared.PointerAnswer.TheVariants as position
-use Rattle.cursor_pointer.specs.Pointer.{positioned, numbered as position_number}
-use Rattle.cursor_picture.specs.declared.completeness.CompleteAnswer.{CompleteAnswer}
-use Rattle.cursor_picture.specs.Completeness.{completeness, numbered as complete_number, is_yes}
-use Rattle.cursor_store.specs.declared.storing.StoreAnswer.{StoreAnswer}
-use Rattle.cursor_store.specs.declared.storing.StoreAnswer.TheVariants as store
+use Rattle.cursor_pointer.specs.Pointer.{positioned}
+use Rattle.cursor_picture.specs.Completeness.{completeness}
+use Rattle.cursor_store.specs.declared.storing.Stored.{Stored}
 use Rattle.cursor_store.specs.Assembling.{Outcome}
 use Rattle.cursor_store.specs.Storing.{moves, stored}
 use Rattle.wire.specs.Laid.{laid}
@@ -16,7 +13,7 @@ use Rattle.cursor_layout.specs.PointerLayout.{pointer_length, pointer_bytes, poi
 use Rattle.cursor_layout.specs.PictureLayout.{picture_length, picture_of, picture_left}
 use Rattle.host_answers.specs.declared.Answer.{Answer}
 use Rattle.host_answers.specs.declared.Yes.{Yes}
-use Rattle.host_answers.specs.Answers.{answer_as, accepted, refused, short, not_answered}
+use Rattle.host_answers.specs.Answers.{accepted, refused, short, answer_of, not_answered, yes_of}
 
 -- The call for positions.
 
@@ -29,12 +26,12 @@ abbrev pub after_position : Answer → List ℕ → PositionOutcome
 after_position r ps = record { answer = r; pointer = ps }
 
 -- the pointer as the packet sets it goes into the record ps; a refusal changes nothing
-abbrev pub pointer_set : PointerAnswer → List ℕ → List ℕ
-pointer_set (position.Accepted p) ps = laid (pointer_bytes p) ps
-pointer_set (position.Refused s place) ps = ps
+abbrev pub pointer_set : Result Pointer Refused → List ℕ → List ℕ
+pointer_set (Ok p) ps = laid (pointer_bytes p) ps
+pointer_set (Err r) ps = ps
 
-abbrev pub position_answered : PointerAnswer → List ℕ → PositionOutcome
-position_answered a ps = after_position (answer_as (position_number a)) (pointer_set a ps)
+abbrev pub position_answered : Result Pointer Refused → List ℕ → PositionOutcome
+position_answered a ps = after_position (answer_of a) (pointer_set a ps)
 
 unfoldable pub cursor_position : List ℕ → List ℕ → PositionOutcome
 cursor_position ps packet =
@@ -62,13 +59,13 @@ unfoldable pub pointer_left : List ℕ → Pointer → List ℕ → List ℕ
 pointer_left packet after ps = cond (moves (pointer_of ps) packet) (laid (pointer_bytes after) ps) ps
 
 -- the pointer and the picture's record, each as the packet leaves it, go into the records ps and qs; a refusal changes neither
-abbrev pub store_answered : List ℕ → StoreAnswer → List ℕ → List ℕ → List ℕ → List ℕ → StoreOutcome
-store_answered packet (store.Accepted x) ps qs image marks =
+abbrev pub store_answered : List ℕ → Result Stored Refused → List ℕ → List ℕ → List ℕ → List ℕ → StoreOutcome
+store_answered packet (Ok x) ps qs image marks =
     after_store accepted (pointer_left packet x.pointer ps) (picture_left (picture_of qs) x.picture qs) image marks
-store_answered packet (store.Refused s place) ps qs image marks = after_store (refused s place) ps qs image marks
+store_answered packet (Err r) ps qs image marks = after_store (refused (r.refusal) (r.place)) ps qs image marks
 
 -- with the image and the marks as the call leaves them
-abbrev pub all_answered : List ℕ → Outcome StoreAnswer → List ℕ → List ℕ → StoreOutcome
+abbrev pub all_answered : List ℕ → Outcome (Result Stored Refused) → List ℕ → List ℕ → StoreOutcome
 all_answered packet a ps qs = store_answered packet a.answer ps qs a.image a.marks
 
 unfoldable pub cursor_store : List ℕ → List ℕ → List ℕ → List ℕ → List ℕ → StoreOutcome
@@ -79,14 +76,11 @@ cursor_store ps qs packet image marks =
 
 -- The completeness question: a refusal by its number.
 
-abbrev pub yes_or_no : CompleteAnswer → Yes
-yes_or_no a = record { status = (complete_number a).number; yes = is_yes a }
-
 unfoldable pub cursor_complete : List ℕ → List ℕ → List ℕ → Yes
 cursor_complete qs image marks =
     cond (leb picture_length (length qs))
-    (yes_or_no (completeness (picture_of qs) (length image) marks))
-    (not_answered status.NoRoom)
+    (yes_of (completeness (picture_of qs) (length image) marks))
+    (not_answered refusal.NoRoom)
 
 -- A refusal changes no lent byte: what a refused call leaves is what was lent. The proofs stand in proofs/Laws/CursorCalls.antt.
 

@@ -22,7 +22,7 @@ use Rattle.cursor_packet.specs.UnusedFields.{SameButUnused, WrongRtp}
 use Rattle.cursor_packet.specs.Examples.{filled, beginning}
 use Rattle.cursor_fragment.specs.Fragment.{takes_type, header_length, image_data, offset_bits, place_of, outside, fragment_frame, fragment_checks, fragment_as}
 use Rattle.cursor_fragment.specs.Start.{start_of, no_start, start_in, same_start}
-use Rattle.cursor_pointer.specs.Pointer.{moved_to, position_status, positioned}
+use Rattle.cursor_pointer.specs.Pointer.{moved_to, position_status, moved_by, positioned}
 use Rattle.cursor_picture.specs.Picture.{same_picture, has_room, held}
 use Rattle.cursor_picture.specs.Completeness.{first_empty_of, completeness}
 use Rattle.cursor_layout.specs.PointerLayout.{pointer_length, pointer_bytes, pointer_of}
@@ -48,7 +48,7 @@ lent = record {
 
 -- PositionRefusalKeeps: a packet with the pointer's own sequence number is 11
 pub position_refused : cursor_position (1 ∷ 5 ∷ 0 ∷ 0 ∷ 0 ∷ 0 ∷ 0 ∷ []) position9 ≡ after_position (record { status = 11; place = 0 }) (1 ∷ 5 ∷ 0 ∷ 0 ∷ 0 ∷ 0 ∷ 0 ∷ [])
-unfolding cursor_position positioned position_status moved_to is_newer distance position_checks position_at first_of frame_checks rtp_holds number_in number_at signed pointer_of
+unfolding cursor_position positioned moved_by position_status moved_to is_newer distance position_checks position_at first_of frame_checks rtp_holds number_in number_at signed pointer_of
 position_refused = refl
 
 -- StoreRefusalKeeps: a packet of no bytes is 1
@@ -70,7 +70,7 @@ pub position_filled
     : SameButUnused position9 (beginning 0x80 0)
     × (cursor_position (1 ∷ 4 ∷ 0 ∷ 0 ∷ 0 ∷ 0 ∷ 0 ∷ []) (beginning 0x80 0)
     ≡ after_position (record { status = 0; place = 0 }) (1 ∷ 5 ∷ 0 ∷ 0xfe ∷ 0xff ∷ 0x0a ∷ 0 ∷ []))
-unfolding cursor_position positioned position_status moved_to is_newer distance position_checks position_at first_of frame_checks rtp_holds number_in number_at bytes_in laid splice signed unsigned pointer_of pointer_bytes
+unfolding cursor_position positioned moved_by position_status moved_to is_newer distance position_checks position_at first_of frame_checks rtp_holds number_in number_at bytes_in laid splice signed unsigned pointer_of pointer_bytes
 position_filled = (record { as_long = refl; before = refl; after = refl }, refl)
 
 abbrev pub last_filled : List ℕ
@@ -87,7 +87,7 @@ store_filled = (record { as_long = refl; before = refl; after = refl }, refl)
 pub position_three
     : (pointer_length ≤ length lent.pointer) × WrongRtp (beginning 0x81 0)
     × (cursor_position lent.pointer (beginning 0x81 0) ≡ after_position (record { status = 3; place = 0 }) lent.pointer)
-unfolding cursor_position positioned position_status moved_to is_newer distance position_checks position_at first_of frame_checks rtp_holds number_in number_at signed pointer_of
+unfolding cursor_position positioned moved_by position_status moved_to is_newer distance position_checks position_at first_of frame_checks rtp_holds number_in number_at signed pointer_of
 position_three = (omega arith, (omega arith, inl (λ e. omega arith)), refl)
 
 -- StoreThreeExactly: the second byte is 1

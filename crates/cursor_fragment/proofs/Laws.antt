@@ -1,4 +1,3 @@
 pub mod Fragment
-pub mod Parsing
 pub mod Start
 pub mod UnusedFields

@@ -1,15 +1,15 @@
 -- Small examples of this crate's definitions, P10 of 01, "Proved table of small examples", among them. Each is computed.
-use Rattle.std.specs.Prelude.{ℕ, ◌≡◌, refl, true, List, [], ◌∷◌, ◌++◌, pos, negsuc, drop}
+use Rattle.std.specs.Prelude.{ℕ, ◌≡◌, refl, true, List, [], ◌∷◌, ◌++◌, pos, negsuc, drop, Some, Ok, Err}
 use Rattle.wire.specs.Number.{number_in}
 use Rattle.wire.specs.Signed.{signed}
-use Rattle.wire.specs.declared.status.Status.TheVariants as status
-use Rattle.wire.specs.Checks.{first_of, accepted}
+use Rattle.wire.specs.declared.status.Refusal.TheVariants as refusal
+use Rattle.wire.specs.Status.{accept, accepted}
+use Rattle.wire.specs.Checks.{first_of}
 use Rattle.cursor_packet.specs.Rtp.{rtp_holds}
 use Rattle.cursor_packet.specs.Frame.{frame_checks}
 use Rattle.cursor_packet.specs.Position.{position_at}
 use Rattle.cursor_packet.specs.UnusedFields.{SameButUnused}
 use Rattle.cursor_packet.specs.Examples.{rtp, filled}
-use Rattle.cursor_fragment.specs.declared.FragmentAnswer.TheVariants as fragment
 use Rattle.cursor_fragment.specs.Fragment.{takes_type, header_length, image_data, offset_bits, place_of, outside, fragment_frame, fragment_checks, fragment_as, fragment_of, fragment_status, data_of, read_fragment}
 use Rattle.cursor_fragment.specs.Start.{start_of, start_in, start_position}
 
@@ -18,9 +18,9 @@ abbrev pub eight : ℕ → List ℕ → List ℕ
 eight size rest = rtp 5 ++ (3 ∷ 0 ∷ size ∷ 0 ∷ 0 ∷ 0 ∷ 8 ∷ 0 ∷ 1 ∷ rest)
 
 pub p10
-    : (fragment_status (eight 13 (0 ∷ 0 ∷ 0 ∷ 8 ∷ [])) ≡ status.Accepted)
-    × (fragment_status (eight 15 (0 ∷ 0 ∷ 0 ∷ 7 ∷ 65 ∷ 66 ∷ [])) ≡ status.OutsideImage)
-    × (fragment_status (eight 13 (0xff ∷ 0xff ∷ 0xff ∷ 0xff ∷ [])) ≡ status.OutsideImage)
+    : (fragment_status (eight 13 (0 ∷ 0 ∷ 0 ∷ 8 ∷ [])) ≡ accept)
+    × (fragment_status (eight 15 (0 ∷ 0 ∷ 0 ∷ 7 ∷ 65 ∷ 66 ∷ [])) ≡ Err refusal.OutsideImage)
+    × (fragment_status (eight 13 (0xff ∷ 0xff ∷ 0xff ∷ 0xff ∷ [])) ≡ Err refusal.OutsideImage)
 unfolding fragment_frame fragment_checks first_of frame_checks rtp_holds number_in signed takes_type header_length image_data offset_bits outside
 p10 = (refl, refl, refl)
 
@@ -30,14 +30,13 @@ start = rtp 5 ++ (2 ∷ 0 ∷ 20 ∷ 0 ∷ 0 ∷ 0 ∷ 4 ∷ 0 ∷ 9 ∷ 0xff �
 
 pub start_read
     : read_fragment start
-    ≡ fragment.Accepted
+    ≡ Ok
     (record {
       sequence = 5;
       total = 4;
       id = 9;
       offset = 0;
-      starts = true;
-      start = record { image_type = 3; hot_x = 1; hot_y = 2 };
+      start = Some (record { image_type = 3; hot_x = 1; hot_y = 2 });
     })
 unfolding read_fragment fragment_as start_in start_of place_of fragment_frame fragment_checks first_of frame_checks rtp_holds number_in signed takes_type header_length image_data offset_bits outside
 start_read = refl
@@ -53,11 +52,11 @@ start_data = refl
 -- the order: too short before a wrong type, a wrong RTP field before a wrong type, a wrong type before a wrong size; the call takes its own
 -- types
 pub in_order
-    : (fragment_status [] ≡ status.Truncated)
-    × (fragment_status (0 ∷ rtp 5 ++ (9 ∷ 0 ∷ 0 ∷ [])) ≡ status.WrongHeader)
-    × (fragment_status (rtp 5 ++ (1 ∷ 0 ∷ 0 ∷ [])) ≡ status.UnknownKind)
-    × (fragment_status (rtp 5 ++ (3 ∷ 0 ∷ 12 ∷ [])) ≡ status.WrongSize)
-    × (fragment_status (rtp 5 ++ (3 ∷ 0 ∷ 13 ∷ [])) ≡ status.Truncated)
+    : (fragment_status [] ≡ Err refusal.Truncated)
+    × (fragment_status (0 ∷ rtp 5 ++ (9 ∷ 0 ∷ 0 ∷ [])) ≡ Err refusal.WrongHeader)
+    × (fragment_status (rtp 5 ++ (1 ∷ 0 ∷ 0 ∷ [])) ≡ Err refusal.UnknownKind)
+    × (fragment_status (rtp 5 ++ (3 ∷ 0 ∷ 12 ∷ [])) ≡ Err refusal.WrongSize)
+    × (fragment_status (rtp 5 ++ (3 ∷ 0 ∷ 13 ∷ [])) ≡ Err refusal.Truncated)
 unfolding fragment_frame fragment_checks first_of frame_checks rtp_holds number_in signed takes_type header_length image_data offset_bits outside
 in_order = (refl, refl, refl, refl, refl)
 

@@ -1,16 +1,16 @@
 -- Starts and continuations (003 section 2.2.3; 01, "Cursor packets": types 2 and 3). Assumes nothing.
-use Rattle.std.specs.Prelude.{ℕ, ◌+◌, ◌≤◌, ◌≡◌, Bool, true, cond, ◌||◌, List, [], ◌∷◌, ◌++◌, ltb, leb, eqb, ℤ, pos, negsuc, length, drop}
+use Rattle.std.specs.Prelude.{ℕ, ◌+◌, ◌≤◌, ◌≡◌, Bool, true, cond, ◌||◌, List, [], ◌∷◌, ◌++◌, ltb, leb, eqb, ℤ, pos, negsuc, length, drop, Result, is_some, unwrap_or}
 use Rattle.wire.specs.Number.{number}
 use Rattle.wire.specs.Signed.{signed}
-use Rattle.wire.specs.Numbered.{Numbered, accepted_as, refused_as}
-use Rattle.wire.specs.declared.status.Status.{Status}
-use Rattle.wire.specs.declared.status.Status.TheVariants as status
+use Rattle.wire.specs.Status.{Status, accepted, number_of, passed, placed}
+use Rattle.wire.specs.Numbered.{numbered}
+use Rattle.wire.specs.declared.status.Refusal.TheVariants as refusal
+use Rattle.wire.specs.declared.status.Refused.{Refused}
 use Rattle.cursor_fragment.specs.declared.Fragment.{Fragment}
-use Rattle.cursor_fragment.specs.declared.FragmentAnswer.{FragmentAnswer}
-use Rattle.cursor_fragment.specs.declared.FragmentAnswer.TheVariants.{Accepted, Refused}
-use Rattle.wire.specs.Checks.{Check, refuse, first_of, accepted}
+use Rattle.cursor_fragment.specs.declared.start.Start.{Start}
+use Rattle.wire.specs.Checks.{Check, refuse, first_of}
 use Rattle.cursor_packet.specs.Frame.{type_of, size_of, frame_checks}
-use Rattle.cursor_fragment.specs.Start.{start_in}
+use Rattle.cursor_fragment.specs.Start.{no_start, start_in}
 
 -- the call for starts and continuations takes types 2 and 3 only
 unfoldable pub takes_type : ℕ → Bool
@@ -57,7 +57,7 @@ unfoldable pub fragment_frame : Bool → List ℕ → List Check
 fragment_frame starts p = frame_checks (takes_type (type_of p)) (size_fits starts p) p
 
 unfoldable pub fragment_checks : Bool → List ℕ → List Check
-fragment_checks starts p = fragment_frame starts p ++ (refuse status.OutsideImage (is_outside starts p) ∷ [])
+fragment_checks starts p = fragment_frame starts p ++ (refuse refusal.OutsideImage (is_outside starts p) ∷ [])
 
 -- the fields of a start or of a continuation; a start's position is the pointer's and none of them
 unfoldable pub fragment_as : Bool → List ℕ → Fragment
@@ -66,9 +66,16 @@ fragment_as starts p = record {
   total = number 4 p 15;
   id = number 2 p 19;
   offset = place_of (offset_of starts p);
-  starts = starts;
   start = start_in starts p;
 }
+
+-- a fragment is a start
+abbrev pub starts : Fragment → Bool
+starts f = is_some f.start
+
+-- its own fields, those where no start was seen in a continuation
+abbrev pub own_fields : Fragment → Start
+own_fields f = unwrap_or f.start no_start
 
 abbrev pub fragment_of : List ℕ → Fragment
 fragment_of p = fragment_as (is_start p) p
@@ -79,18 +86,13 @@ fragment_status p = first_of (fragment_checks (is_start p) p)
 abbrev pub data_of : List ℕ → List ℕ
 data_of p = image_data (is_start p) p
 
-unfoldable pub read_fragment : List ℕ → FragmentAnswer
-read_fragment p = cond (accepted (fragment_status p)) (Accepted (fragment_of p)) (Refused (fragment_status p) 0)
-
--- the paper's number of an answer, and its place
-abbrev pub numbered : FragmentAnswer → Numbered
-numbered (Accepted f) = accepted_as
-numbered (Refused s place) = refused_as s place
+unfoldable pub read_fragment : List ℕ → Result Fragment Refused
+read_fragment p = placed (passed (fragment_status p) (fragment_of p)) 0
 
 -- The number of an answer is that of the first check that refuses, 0 where none does; its place is 0. The proof stands in
 -- proofs/Laws/Fragment.antt.
 abbrev pub NumberByChecks : Type 0
-NumberByChecks = (p : List ℕ) → numbered (read_fragment p) ≡ refused_as (fragment_status p) 0
+NumberByChecks = (p : List ℕ) → numbered (read_fragment p) ≡ record { number = number_of (fragment_status p); place = 0 }
 
 -- Of an accepted packet the fragment's offset is the number that stands in it, and the data lie inside the total. The proofs stand in
 -- proofs/Laws/Fragment.antt.

@@ -15,65 +15,52 @@
 pub mod continuation;
 pub mod start;
 
-ghost use Rattle.std.specs.Prelude.{◌≡◌, min};
+ghost use Rattle.std.specs.Prelude.{◌≡◌};
 ghost use Rattle.wire.specs.Number.{number};
 ghost use Rattle.wire.specs.Signed.{signed};
+ghost use Rattle.wire.specs.Status.{passed};
 ghost use Rattle.wire.specs.Checks.{first_of};
 ghost use Rattle.cursor_packet.specs.Frame.{type_of};
 ghost use Rattle.cursor_fragment.specs.Fragment.{takes_type, is_start, header_length, image_data, offset_bits, offset_of, place_of, outside, fragment_as, read_fragment};
-ghost use Rattle.cursor_fragment.specs.Parsing.{body_checks, no_fragment, refused_as, parsed_as, parsed};
+ghost use Rattle.cursor_fragment.specs.Parsing.{body_checks, parsed};
 
 use continuation::Continuation;
 use cursor_packet::rtp::Rtp;
 use cursor_packet::{frame, rtp};
 use start::Start;
-use wire::status::Status;
-use wire::{number, status};
+use wire::number;
+use wire::status::{Refusal, Refused};
 
-// A start or a continuation, but for its data and a start's position, which is the pointer's. A start stands at offset 0; a continuation has
-// start fields 0.
+// A start or a continuation, but for its data and a start's position, which is the pointer's. A start stands at offset 0.
 #[derive(Clone, Copy)]
 pub struct Fragment {
     pub sequence: u16,
     pub total: u32,
     pub id: u16,
     pub offset: u32,
-    pub starts: bool,
-    pub start: Start,
-}
-
-// The status, and the fragment of an accepted packet. A struct, since the variants of an enum share bytes: the fields would be packed and
-// unpacked again.
-#[derive(Clone, Copy)]
-pub struct Parsed {
-    pub status: Status,
-    pub fragment: Fragment,
-}
-
-#[derive(Clone, Copy)]
-pub enum FragmentAnswer {
-    Accepted(Fragment),
-    Refused { status: Status, place: usize },
+    // A start's own fields.
+    pub start: Option<Start>,
 }
 
 // Whether a packet's type is that of a start.
 pub fn is_start(packet: &[u8]) -> bool
     ensures { result ≡ is_start packet.now }
 {
-    number::u8_at(packet, 12) == Start::TYPE
+    number::read::<u8>(packet, 12) == Start::TYPE
 }
 
 // Whether a packet's type is that of a start or of a continuation.
+#[tactic(auto, unfolding(crate::specs::Fragment::takes_type))]
 fn is_taken(packet: &[u8]) -> bool
     ensures { result ≡ takes_type (type_of packet.now) }
 {
-    let kind = number::u8_at(packet, 12);
-    if kind == Start::TYPE {
-        return true;
-    }
-    kind == Continuation::TYPE
+    matches!(
+        number::read::<u8>(packet, 12),
+        Start::TYPE | Continuation::TYPE
+    )
 }
 
+#[tactic(auto, unfolding(crate::specs::Fragment::header_length))]
 fn header(starts: bool) -> usize
     ensures { result ≡ header_length starts }
 {
@@ -85,22 +72,11 @@ fn header(starts: bool) -> usize
 }
 
 // The image data: what follows the header of a start or of a continuation.
+#[tactic(auto, using(crate::proofs::Laws::Fragment::header_small), unfolding(crate::specs::Fragment::image_data, crate::specs::Fragment::header_length))]
 pub fn image_data(packet: &[u8], starts: bool) -> &[u8]
     ensures { result.now ≡ image_data starts packet.now }
 {
-    let from = Rtp::HEADER + header(starts);
-    if from <= packet.len() {
-        &packet[from..]
-    } else {
-        &packet[..0]
-    }
-}
-
-// The lesser of two numbers.
-fn least(a: usize, b: usize) -> usize
-    ensures { result ≡ min a b }
-{
-    if a < b { a } else { b }
+    packet.get(Rtp::HEADER + header(starts)..).unwrap_or(&[])
 }
 
 // Whether the offset whose two's complement is `place` is negative, which is `place` above 2,147,483,647, or offset plus data goes beyond
@@ -109,122 +85,83 @@ fn is_outside(place: u32, length: usize, total: u32) -> bool
     ensures { result ≡ outside (signed 4 place) length total }
 {
     let end = total as usize;
-    if end < length {
-        return true;
-    }
-    least(end - length, 2147483647) < place as usize
+    end < length || (end - length).min(2147483647) < place as usize
 }
 
 // The offset's four bytes as a number: 0 for a start.
+#[tactic(auto, unfolding(crate::specs::Fragment::offset_bits))]
 fn offset_bits(packet: &[u8], starts: bool) -> u32
     ensures { result ≡ offset_bits starts packet.now }
 {
     if starts {
         return 0;
     }
-    number::u32_at(packet, 21)
+    number::read(packet, 21)
 }
 
 // The fields of a fragment whose total and offset have been read.
+#[tactic(auto, unfolding(crate::specs::Fragment::fragment_as, cursor_packet::specs::Rtp::rtp_of))]
 fn fields(packet: &[u8], starts: bool, total: u32, place: u32) -> Fragment
     requires { (total ≡ number 4 packet.now 15) × (place ≡ place_of (offset_of starts packet.now)) }
     ensures { result ≡ fragment_as starts packet.now }
 {
-    let rtp = rtp::read(packet);
-    let own = start::read(packet, starts);
     Fragment {
-        sequence: rtp.sequence,
-        total: total,
-        id: number::u16_at(packet, 19),
+        sequence: rtp::read(packet).sequence,
+        total,
+        id: number::read(packet, 19),
         offset: place,
-        starts: starts,
-        start: own,
-    }
-}
-
-// What stands in a fragment's place where the packet is refused.
-fn no_fragment() -> Fragment
-    ensures { result ≡ no_fragment }
-{
-    let none = Start::none();
-    Fragment {
-        sequence: 0,
-        total: 0,
-        id: 0,
-        offset: 0,
-        starts: false,
-        start: none,
-    }
-}
-
-fn refused(status: Status) -> Parsed
-    ensures { result ≡ refused_as status }
-{
-    Parsed {
-        status: status,
-        fragment: no_fragment(),
+        start: start::read(packet, starts),
     }
 }
 
 // A fragment after its header and type: PacketMsgSize below 18 for a start, below 13 for a continuation, 2; too few bytes 1; too many 2; negative
 // offset, or offset plus data beyond the total, 9. Total and offset are read once, for the check and for the fragment.
-#[tactic(auto, unfolding(crate::specs::Parsing::body_checks, crate::specs::Parsing::parsed_as, crate::specs::Parsing::refused_as, wire::specs::Checks::first_of))]
-fn parse_body(packet: &[u8], starts: bool) -> Parsed
-    ensures { result ≡ parsed_as (first_of (body_checks starts packet.now)) (fragment_as starts packet.now) }
+#[tactic(auto, unfolding(crate::specs::Parsing::body_checks, wire::specs::Checks::first_of))]
+fn parse_body(packet: &[u8], starts: bool) -> Result<Fragment, Refusal>
+    ensures { result ≡ passed (first_of (body_checks starts packet.now)) (fragment_as starts packet.now) }
 {
-    let size = number::u16_at(packet, 13) as usize;
+    let size = number::read::<u16>(packet, 13) as usize;
     let least = header(starts);
     if size < least {
-        return refused(Status::WrongSize);
+        return Err(Refusal::WrongSize);
     }
     let end = Rtp::HEADER + size;
     if packet.len() < end {
-        return refused(Status::Truncated);
+        return Err(Refusal::Truncated);
     }
     if end < packet.len() {
-        return refused(Status::WrongSize);
+        return Err(Refusal::WrongSize);
     }
-    let total = number::u32_at(packet, 15);
+    let total = number::read(packet, 15);
     let place = offset_bits(packet, starts);
     if is_outside(place, size - least, total) {
-        return refused(Status::OutsideImage);
+        return Err(Refusal::OutsideImage);
     }
-    Parsed {
-        status: Status::Accepted,
-        fragment: fields(packet, starts, total, place),
-    }
+    Ok(fields(packet, starts, total, place))
 }
 
-// The first refusal in 01's order, or Accepted with the fragment: fewer than 15 bytes 1; RTP 3; another type 4; then the checks of a start or
+// The first refusal in 01's order, or the fragment: fewer than 15 bytes 1; RTP 3; another type 4; then the checks of a start or
 // of a continuation.
-pub fn parse(packet: &[u8]) -> Parsed
+#[tactic(auto, unfolding(crate::specs::Parsing::parsed, crate::specs::Parsing::body_checks, crate::specs::Fragment::fragment_checks, crate::specs::Fragment::fragment_frame, cursor_packet::specs::Frame::frame_checks, wire::specs::Checks::first_of))]
+pub fn parse(packet: &[u8]) -> Result<Fragment, Refusal>
     ensures { result ≡ parsed packet.now }
 {
     if packet.len() < frame::LEAST {
-        return refused(Status::Truncated);
+        return Err(Refusal::Truncated);
     }
     if !rtp::holds(packet) {
-        return refused(Status::WrongHeader);
+        return Err(Refusal::WrongHeader);
     }
     if !is_taken(packet) {
-        return refused(Status::UnknownKind);
+        return Err(Refusal::UnknownKind);
     }
     parse_body(packet, is_start(packet))
 }
 
 // The start or continuation, or its refusal.
-pub fn read(packet: &[u8]) -> FragmentAnswer
+#[tactic(auto, unfolding(crate::specs::Fragment::read_fragment, crate::specs::Parsing::parsed))]
+pub fn read(packet: &[u8]) -> Result<Fragment, Refused>
     ensures { result ≡ read_fragment packet.now }
 {
-    let parsed = parse(packet);
-    let status = parsed.status;
-    let fragment = parsed.fragment;
-    if status::number(status) == 0 {
-        FragmentAnswer::Accepted(fragment)
-    } else {
-        FragmentAnswer::Refused {
-            status: status,
-            place: 0,
-        }
-    }
+    Ok(parse(packet)?)
 }

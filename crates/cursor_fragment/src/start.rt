@@ -14,7 +14,7 @@ use cursor_packet::position::Position;
 use wire::number;
 
 // A start's own fields, which its position is not among.
-#[derive(Clone, Copy)]
+#[derive(Clone, Copy, PartialEq, Eq)]
 pub struct Start {
     pub image_type: u8,
     pub hot_x: u16,
@@ -26,6 +26,7 @@ impl Start {
     // The least PacketMsgSize: all but the data.
     pub const HEADER: usize = 18;
     // The start fields where no start was seen.
+    #[tactic(auto, unfolding(crate::specs::Start::no_start))]
     pub fn none() -> Start
         ensures { result ≡ no_start }
     {
@@ -37,30 +38,27 @@ impl Start {
     }
 }
 
-// The start fields of a packet: 0 for a continuation.
-pub(crate) fn read(packet: &[u8], starts: bool) -> Start
+// The start fields of a packet that is a start.
+#[tactic(auto, unfolding(crate::specs::Start::start_in, crate::specs::Start::start_of))]
+pub(crate) fn read(packet: &[u8], starts: bool) -> Option<Start>
     ensures { result ≡ start_in starts packet.now }
 {
     if !starts {
-        return Start::none();
+        return None;
     }
-    Start {
-        image_type: number::u8_at(packet, 25),
-        hot_x: number::u16_at(packet, 26),
-        hot_y: number::u16_at(packet, 28),
-    }
+    Some(Start {
+        image_type: number::read(packet, 25),
+        hot_x: number::read(packet, 26),
+        hot_y: number::read(packet, 28),
+    })
 }
 
 // Whether the own fields of two starts are the same.
+#[tactic(auto, unfolding(crate::specs::Start::same_start))]
 pub fn same(a: Start, b: Start) -> bool
     ensures { result ≡ same_start a b }
 {
-    if a.image_type == b.image_type {
-        if a.hot_x == b.hot_x {
-            return a.hot_y == b.hot_y;
-        }
-    }
-    false
+    a == b
 }
 
 // The position of a packet that is a start, with the packet's sequence number.

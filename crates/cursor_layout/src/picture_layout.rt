@@ -16,24 +16,25 @@ ghost use Rattle.cursor_layout.specs.PictureLayout.{picture_length, start_bytes,
 
 use cursor_fragment::start::Start;
 use cursor_picture::Picture;
-use wire::little_endian::{put_u8, put_u16, put_u32, u8_at, u16_at, u32_at};
+use wire::little_endian;
 
 pub const LENGTH: usize = 15;
 
 // The picture in the bytes.
+#[tactic(auto, unfolding(crate::specs::PictureLayout::picture_of))]
 pub fn read(record: &[u8]) -> Picture
     ensures { result ≡ picture_of «record».now }
 {
     Picture {
-        opened: u8_at(record, 0) != 0,
-        id: u16_at(record, 1),
-        total: u32_at(record, 3),
-        opening: u16_at(record, 7),
-        seen: u8_at(record, 9) != 0,
+        opened: little_endian::read::<u8>(record, 0) != 0,
+        id: little_endian::read(record, 1),
+        total: little_endian::read(record, 3),
+        opening: little_endian::read(record, 7),
+        seen: little_endian::read::<u8>(record, 9) != 0,
         start: Start {
-            image_type: u8_at(record, 10),
-            hot_x: u16_at(record, 11),
-            hot_y: u16_at(record, 13),
+            image_type: little_endian::read(record, 10),
+            hot_x: little_endian::read(record, 11),
+            hot_y: little_endian::read(record, 13),
         },
     }
 }
@@ -43,10 +44,10 @@ fn write_start(record: &mut [u8], seen: bool, start: Start)
     requires { picture_length ≤ length «record».old }
     ensures { «record».new ≡ splice 9 (start_bytes seen start) «record».old }
 {
-    put_u8(record, 9, seen as u8);
-    put_u8(record, 10, start.image_type);
-    put_u16(record, 11, start.hot_x);
-    put_u16(record, 13, start.hot_y);
+    little_endian::write(record, 9, seen as u8);
+    little_endian::write(record, 10, start.image_type);
+    little_endian::write(record, 11, start.hot_x);
+    little_endian::write(record, 13, start.hot_y);
 }
 
 // Writes the picture in the first bytes; a slice shorter than its layout is left alone.
@@ -56,20 +57,19 @@ pub fn write(record: &mut [u8], picture: Picture)
     if record.len() < LENGTH {
         return;
     }
-    let start = picture.start;
-    put_u8(record, 0, picture.opened as u8);
-    put_u16(record, 1, picture.id);
-    put_u32(record, 3, picture.total);
-    put_u16(record, 7, picture.opening);
-    write_start(record, picture.seen, start);
+    little_endian::write(record, 0, picture.opened as u8);
+    little_endian::write(record, 1, picture.id);
+    little_endian::write(record, 3, picture.total);
+    little_endian::write(record, 7, picture.opening);
+    write_start(record, picture.seen, picture.start);
 }
 
 // Writes the picture where it is another than the one before; else each byte of the record stays, also of a flag that is neither 0 nor 1.
+#[tactic(auto, unfolding(crate::specs::PictureLayout::picture_left, cursor_picture::specs::Picture::same_picture, cursor_fragment::specs::Start::same_start))]
 pub fn change(record: &mut [u8], before: Picture, after: Picture)
     ensures { «record».new ≡ picture_left before after «record».old }
 {
-    if cursor_picture::same(before, after) {
-        return;
+    if before != after {
+        write(record, after);
     }
-    write(record, after);
 }

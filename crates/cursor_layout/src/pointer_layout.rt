@@ -10,20 +10,21 @@ ghost use Rattle.wire.specs.Laid.{laid};
 ghost use Rattle.cursor_layout.specs.PointerLayout.{pointer_bytes, pointer_of};
 
 use cursor_pointer::Pointer;
-use wire::little_endian::{put_u8, put_u16, u8_at, u16_at};
+use wire::little_endian;
 use wire::signed::{signed16, unsigned16};
 
 pub const LENGTH: usize = 7;
 
 // The pointer in the bytes.
+#[tactic(auto, unfolding(crate::specs::PointerLayout::pointer_of))]
 pub fn read(record: &[u8]) -> Pointer
     ensures { result ≡ pointer_of «record».now }
 {
     Pointer {
-        known: u8_at(record, 0) != 0,
-        sequence: u16_at(record, 1),
-        x: signed16(u16_at(record, 3)),
-        y: signed16(u16_at(record, 5)),
+        known: little_endian::read::<u8>(record, 0) != 0,
+        sequence: little_endian::read(record, 1),
+        x: signed16(little_endian::read(record, 3)),
+        y: signed16(little_endian::read(record, 5)),
     }
 }
 
@@ -34,8 +35,8 @@ pub fn write(record: &mut [u8], pointer: Pointer)
     if record.len() < LENGTH {
         return;
     }
-    put_u8(record, 0, pointer.known as u8);
-    put_u16(record, 1, pointer.sequence);
-    put_u16(record, 3, unsigned16(pointer.x));
-    put_u16(record, 5, unsigned16(pointer.y));
+    little_endian::write(record, 0, pointer.known as u8);
+    little_endian::write(record, 1, pointer.sequence);
+    little_endian::write(record, 3, unsigned16(pointer.x));
+    little_endian::write(record, 5, unsigned16(pointer.y));
 }

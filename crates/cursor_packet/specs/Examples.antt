@@ -1,10 +1,10 @@
 -- Small examples of this crate's definitions, P9 of 01, "Proved table of small examples", among them. Each is computed.
-use Rattle.std.specs.Prelude.{ℕ, ◌≡◌, refl, List, [], ◌∷◌, ◌++◌, pos, negsuc, take}
+use Rattle.std.specs.Prelude.{ℕ, ◌≡◌, refl, List, [], ◌∷◌, ◌++◌, pos, negsuc, take, Ok, Err}
 use Rattle.std.proofs.Common.{inl, inr, arith}
 use Rattle.wire.specs.Number.{number_in}
 use Rattle.wire.specs.Signed.{signed}
-use Rattle.wire.specs.declared.status.Status.TheVariants as status
-use Rattle.cursor_packet.specs.declared.position.PositionAnswer.TheVariants as position
+use Rattle.wire.specs.declared.status.Refusal.TheVariants as refusal
+use Rattle.wire.specs.Status.{refused_at}
 use Rattle.wire.specs.Checks.{first_of}
 use Rattle.cursor_packet.specs.Rtp.{rtp_holds}
 use Rattle.cursor_packet.specs.Frame.{frame_checks}
@@ -17,14 +17,14 @@ rtp sequence = 0x80 ∷ 0 ∷ 0 ∷ sequence ∷ 0 ∷ 0 ∷ 0 ∷ 0 ∷ 0 ∷ 0
 
 -- P9: position −2 (`negsuc 1`), 10
 pub p9
-    : read_position (rtp 5 ++ (1 ∷ 0 ∷ 7 ∷ 0xff ∷ 0xfe ∷ 0 ∷ 0x0a ∷ [])) ≡ position.Accepted (record { sequence = 5; x = negsuc 1; y = pos 10 })
+    : read_position (rtp 5 ++ (1 ∷ 0 ∷ 7 ∷ 0xff ∷ 0xfe ∷ 0 ∷ 0x0a ∷ [])) ≡ Ok (record { sequence = 5; x = negsuc 1; y = pos 10 })
 unfolding read_position position_checks position_at first_of frame_checks rtp_holds number_in signed
 p9 = refl
 
 -- the order: a wrong type before a wrong size; the call takes its own type
 pub in_order
-    : (read_position (rtp 5 ++ (2 ∷ 0 ∷ 7 ∷ [])) ≡ position.Refused status.UnknownKind 0)
-    × (read_position (rtp 5 ++ (1 ∷ 0 ∷ 8 ∷ [])) ≡ position.Refused status.WrongSize 0)
+    : (read_position (rtp 5 ++ (2 ∷ 0 ∷ 7 ∷ [])) ≡ Err (refused_at refusal.UnknownKind 0))
+    × (read_position (rtp 5 ++ (1 ∷ 0 ∷ 8 ∷ [])) ≡ Err (refused_at refusal.WrongSize 0))
 unfolding read_position position_checks position_at first_of frame_checks rtp_holds number_in signed
 in_order = (refl, refl)
 
@@ -34,7 +34,7 @@ filled sequence = 0x80 ∷ 0 ∷ 0 ∷ sequence ∷ 0x11 ∷ 0x22 ∷ 0x33 ∷ 0
 
 -- P9 with it: the same position
 pub p9_filled
-    : read_position (filled 5 ++ (1 ∷ 0 ∷ 7 ∷ 0xff ∷ 0xfe ∷ 0 ∷ 0x0a ∷ [])) ≡ position.Accepted (record { sequence = 5; x = negsuc 1; y = pos 10 })
+    : read_position (filled 5 ++ (1 ∷ 0 ∷ 7 ∷ 0xff ∷ 0xfe ∷ 0 ∷ 0x0a ∷ [])) ≡ Ok (record { sequence = 5; x = negsuc 1; y = pos 10 })
 unfolding read_position position_checks position_at first_of frame_checks rtp_holds number_in signed
 p9_filled = refl
 
@@ -45,10 +45,10 @@ beginning first second =
 
 -- another first byte, another second one, and the first 14 bytes with either
 pub first_two
-    : (read_position (beginning 0x81 0) ≡ position.Refused status.WrongHeader 0)
-    × (read_position (beginning 0x80 1) ≡ position.Refused status.WrongHeader 0)
-    × (read_position (take 14 (beginning 0x80 0)) ≡ position.Refused status.Truncated 0)
-    × (read_position (take 14 (beginning 0x81 0)) ≡ position.Refused status.Truncated 0)
+    : (read_position (beginning 0x81 0) ≡ Err (refused_at refusal.WrongHeader 0))
+    × (read_position (beginning 0x80 1) ≡ Err (refused_at refusal.WrongHeader 0))
+    × (read_position (take 14 (beginning 0x80 0)) ≡ Err (refused_at refusal.Truncated 0))
+    × (read_position (take 14 (beginning 0x81 0)) ≡ Err (refused_at refusal.Truncated 0))
 unfolding read_position position_checks position_at first_of frame_checks rtp_holds number_in signed
 first_two = (refl, refl, refl, refl)
 

@@ -3,7 +3,7 @@
 -- 2"). Assumes nothing.
 use Rattle.std.specs.Prelude.{ℕ, ◌+◌, Bool, not, List, [], ◌∷◌, ltb, length}
 use Rattle.wire.specs.Number.{number}
-use Rattle.wire.specs.declared.status.Status.TheVariants as status
+use Rattle.wire.specs.declared.status.Refusal.TheVariants as refusal
 use Rattle.wire.specs.Checks.{Check, refuse}
 use Rattle.cursor_packet.specs.Rtp.{rtp_holds}
 
@@ -16,15 +16,15 @@ size_of p = number 2 p 13
 -- fits: PacketMsgSize is one of this type's
 abbrev pub size_checks : Bool → List ℕ → List Check
 size_checks fits p =
-    refuse status.WrongSize (not fits)
-    ∷ refuse status.Truncated (ltb (length p) (12 + size_of p))
-    ∷ refuse status.WrongSize (ltb (12 + size_of p) (length p))
+    refuse refusal.WrongSize (not fits)
+    ∷ refuse refusal.Truncated (ltb (length p) (12 + size_of p))
+    ∷ refuse refusal.WrongSize (ltb (12 + size_of p) (length p))
     ∷ []
 
 -- taken: the call takes this type
 unfoldable pub frame_checks : Bool → Bool → List ℕ → List Check
 frame_checks taken fits p =
-    refuse status.Truncated (ltb (length p) 15)
-    ∷ refuse status.WrongHeader (not (rtp_holds p))
-    ∷ refuse status.UnknownKind (not taken)
+    refuse refusal.Truncated (ltb (length p) 15)
+    ∷ refuse refusal.WrongHeader (not (rtp_holds p))
+    ∷ refuse refusal.UnknownKind (not taken)
     ∷ size_checks fits p

@@ -1,12 +1,12 @@
 -- Position packets (003 section 2.2.2; 01, "Cursor packets": "Type 1, position: size 7; x and y, 16 bits signed"). Assumes nothing.
-use Rattle.std.specs.Prelude.{ℕ, ◌≡◌, cond, List, eqb}
+use Rattle.std.specs.Prelude.{ℕ, ◌≡◌, List, eqb, Result}
 use Rattle.wire.specs.Number.{number}
 use Rattle.wire.specs.Signed.{signed}
-use Rattle.wire.specs.Numbered.{Numbered, accepted_as, refused_as}
+use Rattle.wire.specs.Status.{number_of, passed, placed}
+use Rattle.wire.specs.Numbered.{numbered}
+use Rattle.wire.specs.declared.status.Refused.{Refused}
 use Rattle.cursor_packet.specs.declared.position.Position.{Position}
-use Rattle.cursor_packet.specs.declared.position.PositionAnswer.{PositionAnswer}
-use Rattle.cursor_packet.specs.declared.position.PositionAnswer.TheVariants.{Accepted, Refused}
-use Rattle.wire.specs.Checks.{Check, first_of, accepted}
+use Rattle.wire.specs.Checks.{Check, first_of}
 use Rattle.cursor_packet.specs.Frame.{type_of, size_of, frame_checks}
 
 -- the checks of the call for positions, in their order
@@ -20,15 +20,10 @@ position_at x y p = record { sequence = number 2 p 2; x = signed 2 (number 2 p x
 abbrev pub position_of : List ℕ → Position
 position_of p = position_at 15 17 p
 
-unfoldable pub read_position : List ℕ → PositionAnswer
-read_position p = cond (accepted (first_of (position_checks p))) (Accepted (position_of p)) (Refused (first_of (position_checks p)) 0)
-
--- the paper's number of an answer, and its place
-abbrev pub numbered : PositionAnswer → Numbered
-numbered (Accepted x) = accepted_as
-numbered (Refused s place) = refused_as s place
+unfoldable pub read_position : List ℕ → Result Position Refused
+read_position p = placed (passed (first_of (position_checks p)) (position_of p)) 0
 
 -- The number of an answer is that of the first check that refuses, 0 where none does; its place is 0. The proof stands in
 -- proofs/Laws/Position.antt.
 abbrev pub NumberByChecks : Type 0
-NumberByChecks = (p : List ℕ) → numbered (read_position p) ≡ refused_as (first_of (position_checks p)) 0
+NumberByChecks = (p : List ℕ) → numbered (read_position p) ≡ record { number = number_of (first_of (position_checks p)); place = 0 }

@@ -9,8 +9,8 @@ ghost use Rattle.cursor_packet.specs.Position.{position_checks, position_at, pos
 
 use super::rtp::Rtp;
 use super::{frame, rtp};
-use wire::status::Status;
-use wire::{number, signed, status};
+use wire::status::{Refusal, Refused, Status};
+use wire::{number, signed};
 
 #[derive(Clone, Copy)]
 pub struct Position {
@@ -25,23 +25,15 @@ impl Position {
     pub const SIZE: u16 = 7;
 }
 
-#[derive(Clone, Copy)]
-pub enum PositionAnswer {
-    Accepted(Position),
-    Refused { status: Status, place: usize },
-}
-
 // The position whose x and y stand at these places of a packet, with the packet's sequence number.
+#[tactic(auto, unfolding(crate::specs::Position::position_at, crate::specs::Rtp::rtp_of))]
 pub fn at(packet: &[u8], x: usize, y: usize) -> Position
     ensures { result ≡ position_at x y packet.now }
 {
-    let rtp = rtp::read(packet);
-    let across = signed::signed16(number::u16_at(packet, x));
-    let down = signed::signed16(number::u16_at(packet, y));
     Position {
-        sequence: rtp.sequence,
-        x: across,
-        y: down,
+        sequence: rtp::read(packet).sequence,
+        x: signed::signed16(number::read(packet, x)),
+        y: signed::signed16(number::read(packet, y)),
     }
 }
 
@@ -52,46 +44,40 @@ pub fn fields(packet: &[u8]) -> Position
     at(packet, 15, 17)
 }
 
-// The first refusal in 01's order, or Accepted: fewer than 15 bytes 1; RTP 3; another type 4; PacketMsgSize not 7, 2; too few bytes 1; too
+// The first refusal in 01's order, or accepted: fewer than 15 bytes 1; RTP 3; another type 4; PacketMsgSize not 7, 2; too few bytes 1; too
 // many 2.
 #[tactic(auto, unfolding(crate::specs::Position::position_checks, crate::specs::Frame::frame_checks, wire::specs::Checks::first_of))]
 pub fn check(packet: &[u8]) -> Status
     ensures { result ≡ first_of (position_checks packet.now) }
 {
     if packet.len() < frame::LEAST {
-        return Status::Truncated;
+        return Err(Refusal::Truncated);
     }
     if !rtp::holds(packet) {
-        return Status::WrongHeader;
+        return Err(Refusal::WrongHeader);
     }
-    if number::u8_at(packet, 12) != Position::TYPE {
-        return Status::UnknownKind;
+    if number::read::<u8>(packet, 12) != Position::TYPE {
+        return Err(Refusal::UnknownKind);
     }
-    let size = number::u16_at(packet, 13);
+    let size: u16 = number::read(packet, 13);
     if size != Position::SIZE {
-        return Status::WrongSize;
+        return Err(Refusal::WrongSize);
     }
     let end = Rtp::HEADER + size as usize;
     if packet.len() < end {
-        return Status::Truncated;
+        return Err(Refusal::Truncated);
     }
     if end < packet.len() {
-        return Status::WrongSize;
+        return Err(Refusal::WrongSize);
     }
-    Status::Accepted
+    Ok(())
 }
 
 // The position packet, or its refusal.
-pub fn read(packet: &[u8]) -> PositionAnswer
+#[tactic(auto, unfolding(crate::specs::Position::read_position))]
+pub fn read(packet: &[u8]) -> Result<Position, Refused>
     ensures { result ≡ read_position packet.now }
 {
-    let status = check(packet);
-    if status::number(status) == 0 {
-        PositionAnswer::Accepted(fields(packet))
-    } else {
-        PositionAnswer::Refused {
-            status: status,
-            place: 0,
-        }
-    }
+    check(packet)?;
+    Ok(fields(packet))
 }

@@ -22,17 +22,15 @@ impl Rtp {
 pub fn holds(packet: &[u8]) -> bool
     ensures { result ≡ rtp_holds packet.now }
 {
-    if packet.len() < Rtp::HEADER {
-        return false;
-    }
-    number::u16_at(packet, 0) == Rtp::FIRST_TWO
+    Rtp::HEADER <= packet.len() && number::read::<u16>(packet, 0) == Rtp::FIRST_TWO
 }
 
 // The header's field.
+#[tactic(auto, unfolding(crate::specs::Rtp::rtp_of))]
 pub fn read(packet: &[u8]) -> Rtp
     ensures { result ≡ rtp_of packet.now }
 {
     Rtp {
-        sequence: number::u16_at(packet, 2),
+        sequence: number::read(packet, 2),
     }
 }

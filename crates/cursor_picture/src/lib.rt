@@ -9,11 +9,11 @@ ghost use Rattle.std.specs.Prelude.{◌≡◌};
 ghost use Rattle.cursor_picture.specs.Picture.{fresh_picture, same_picture, has_room, held};
 
 pub use completeness::complete;
-use cursor_fragment::start;
 use cursor_fragment::start::Start;
 
-// Where no picture is opened the other fields are not looked at; where no start was seen the start fields are not.
-#[derive(Clone, Copy)]
+// Where no picture is opened the other fields are not looked at; where no start was seen the start fields are not. Flags and no Option, since a
+// host's record may hold any bytes beside a flag of 0, and they read back (`cursor_layout PictureReadsBack`).
+#[derive(Clone, Copy, PartialEq, Eq)]
 pub struct Picture {
     pub opened: bool,
     pub id: u16,
@@ -30,55 +30,42 @@ impl Picture {
     pub const LARGEST: u32 = 262144;
 
     // No picture is opened.
+    #[tactic(auto, unfolding(crate::specs::Picture::fresh_picture))]
     pub fn fresh() -> Picture
         ensures { result ≡ fresh_picture }
     {
-        let none = Start::none();
         Picture {
             opened: false,
             id: 0,
             total: 0,
             opening: 0,
             seen: false,
-            start: none,
+            start: Start::none(),
         }
     }
 }
 
 // Whether two records are the same in every field.
-#[tactic(auto, unfolding(crate::specs::Picture::same_picture))]
+#[tactic(auto, unfolding(crate::specs::Picture::same_picture, cursor_fragment::specs::Start::same_start))]
 pub fn same(a: Picture, b: Picture) -> bool
     ensures { result ≡ same_picture a b }
 {
-    let old = a.start;
-    let new = b.start;
-    a.opened == b.opened
-        && a.id == b.id
-        && a.total == b.total
-        && a.opening == b.opening
-        && a.seen == b.seen
-        && start::same(old, new)
+    a == b
 }
 
 // Whether a total is no larger than the largest, the lent picture and the lent marks.
+#[tactic(auto, unfolding(crate::specs::Picture::has_room))]
 pub fn has_room(total: u32, image: usize, marks: usize) -> bool
     ensures { result ≡ has_room total image marks }
 {
-    if total <= Picture::LARGEST {
-        let places = total as usize;
-        if places <= image {
-            return places <= marks;
-        }
-    }
-    false
+    let places = total as usize;
+    total <= Picture::LARGEST && places <= image && places <= marks
 }
 
 // Whether the opened picture, if there is one, has room: else each call lent a picture is refused with 17.
+#[tactic(auto, unfolding(crate::specs::Picture::held))]
 pub fn is_held(picture: Picture, image: usize, marks: usize) -> bool
     ensures { result ≡ held picture image marks }
 {
-    if picture.opened {
-        return has_room(picture.total, image, marks);
-    }
-    true
+    !picture.opened || has_room(picture.total, image, marks)
 }

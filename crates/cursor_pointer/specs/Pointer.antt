@@ -1,16 +1,15 @@
 -- The pointer (01, "Cursor packets": "a position packet that isn't newer than the last pointer sequence is 11. A newer one sets position
 -- and last"). Assumes nothing.
-use Rattle.std.specs.Prelude.{ℕ, ◌≡◌, Bool, true, false, not, cond, List, [], ◌∷◌, ◌++◌, ℤ, pos}
-use Rattle.wire.specs.Numbered.{Numbered, accepted_as, refused_as}
+use Rattle.std.specs.Prelude.{ℕ, ◌≡◌, Bool, true, false, not, cond, List, [], ◌∷◌, ◌++◌, ℤ, pos, Result}
+use Rattle.wire.specs.Numbered.{numbered}
 use Rattle.wire.specs.Sequence.{is_newer}
-use Rattle.wire.specs.declared.status.Status.{Status}
-use Rattle.wire.specs.declared.status.Status.TheVariants as status
-use Rattle.wire.specs.Checks.{refuse, first_of, accepted}
+use Rattle.wire.specs.Status.{Status, number_of, passed, placed}
+use Rattle.wire.specs.declared.status.Refusal.{Refusal}
+use Rattle.wire.specs.declared.status.Refusal.TheVariants as refusal
+use Rattle.wire.specs.declared.status.Refused.{Refused}
+use Rattle.wire.specs.Checks.{refuse, first_of}
 use Rattle.cursor_packet.specs.Position.{position_checks, position_of}
 use Rattle.cursor_pointer.specs.declared.Pointer.{Pointer}
-use Rattle.cursor_pointer.specs.declared.Positioned.{Positioned}
-use Rattle.cursor_pointer.specs.declared.PointerAnswer.{PointerAnswer}
-use Rattle.cursor_pointer.specs.declared.PointerAnswer.TheVariants.{Accepted, Refused}
 
 -- no position is known
 unfoldable pub fresh_pointer : Pointer
@@ -26,32 +25,23 @@ moved_to p sequence x y = cond (pointer_moves p sequence) (record { known = true
 
 -- the call for positions: the packet's own checks, then 11
 unfoldable pub position_status : Pointer → List ℕ → Status
-position_status p packet = first_of (position_checks packet ++ (refuse status.NotNewer (not (pointer_moves p (position_of packet).sequence)) ∷ []))
+position_status p packet = first_of (position_checks packet ++ (refuse refusal.NotNewer (not (pointer_moves p (position_of packet).sequence)) ∷ []))
 
 -- the pointer as the packet sets it
 abbrev pub positioned_to : Pointer → List ℕ → Pointer
 positioned_to p packet = moved_to p (position_of packet).sequence (position_of packet).x (position_of packet).y
 
--- a refusal leaves the pointer as it was
-unfoldable pub moved_by : Pointer → List ℕ → Positioned
-moved_by p packet =
-    record {
-      status = position_status p packet;
-      pointer = cond (accepted (position_status p packet)) (positioned_to p packet) p;
-    }
+unfoldable pub moved_by : Pointer → List ℕ → Result Pointer Refusal
+moved_by p packet = passed (position_status p packet) (positioned_to p packet)
 
-unfoldable pub positioned : Pointer → List ℕ → PointerAnswer
-positioned p packet = cond (accepted (position_status p packet)) (Accepted (positioned_to p packet)) (Refused (position_status p packet) 0)
-
--- the paper's number of an answer, and its place
-abbrev pub numbered : PointerAnswer → Numbered
-numbered (Accepted p) = accepted_as
-numbered (Refused s place) = refused_as s place
+-- the same, with the refusal's place
+unfoldable pub positioned : Pointer → List ℕ → Result Pointer Refused
+positioned p packet = placed (moved_by p packet) 0
 
 -- The number of an answer is that of the first check that refuses, 0 where none does; its place is 0. The proof stands in
 -- proofs/Laws/Pointer.antt.
 abbrev pub NumberByChecks : Type 0
-NumberByChecks = (p : Pointer) (packet : List ℕ) → numbered (positioned p packet) ≡ refused_as (position_status p packet) 0
+NumberByChecks = (p : Pointer) (packet : List ℕ) → numbered (positioned p packet) ≡ record { number = number_of (position_status p packet); place = 0 }
 
 -- Sequence numbers go on from 65,535 to 0: there the pointer moves. The proof stands in proofs/Laws/Pointer.antt.
 unfoldable pub WrapMoves : Type 0

@@ -5,10 +5,12 @@ ghost use Rattle.std.specs.Prelude.{◌≡◌};
 ghost use Rattle.cursor_pointer.specs.Pointer.{fresh_pointer, moved_to, moved_by, positioned};
 
 use cursor_packet::position;
-use wire::status::Status;
-use wire::{sequence, status};
+use cursor_packet::position::Position;
+use wire::sequence;
+use wire::status::{Refusal, Refused};
 
 // The pointer's last position, and the sequence number of the packet that set it. Where none is known the other fields are not looked at.
+// A flag and no Option, since a host's record may hold any bytes beside a flag of 0, and they read back (`cursor_layout PointerReadsBack`).
 #[derive(Clone, Copy)]
 pub struct Pointer {
     pub known: bool,
@@ -19,6 +21,7 @@ pub struct Pointer {
 
 impl Pointer {
     // No position is known.
+    #[tactic(auto, unfolding(crate::specs::Pointer::fresh_pointer))]
     pub fn fresh() -> Pointer
         ensures { result ≡ fresh_pointer }
     {
@@ -31,72 +34,39 @@ impl Pointer {
     }
 }
 
-// What a position packet does: the first refusal or Accepted, and the pointer afterwards.
-#[derive(Clone, Copy)]
-pub struct Positioned {
-    pub status: Status,
-    pub pointer: Pointer,
-}
-
-#[derive(Clone, Copy)]
-pub enum PointerAnswer {
-    Accepted(Pointer),
-    Refused { status: Status, place: usize },
-}
-
-// The pointer after a packet with this sequence number and position: set if the packet is newer, else as it was.
-pub fn moved(pointer: Pointer, sequence: u16, x: i16, y: i16) -> Pointer
-    ensures { result ≡ moved_to pointer sequence x y }
+// The pointer after a packet with this position: set if the packet is newer, else as it was.
+#[tactic(auto, unfolding(crate::specs::Pointer::moved_to))]
+pub fn moved(pointer: Pointer, position: Position) -> Pointer
+    ensures { result ≡ moved_to pointer position.sequence position.x position.y }
 {
-    if sequence::newer(pointer.known, pointer.sequence, sequence) {
+    if sequence::newer(pointer.known, pointer.sequence, position.sequence) {
         return Pointer {
             known: true,
-            sequence: sequence,
-            x: x,
-            y: y,
+            sequence: position.sequence,
+            x: position.x,
+            y: position.y,
         };
     }
     pointer
 }
 
-// Takes a position packet: the first refusal in 01's order, where the pointer stays, or Accepted with the pointer as the packet sets it.
-pub fn take(pointer: Pointer, packet: &[u8]) -> Positioned
+// Takes a position packet: the pointer as the packet sets it, or the first refusal in 01's order.
+#[tactic(auto, using(crate::proofs::Laws::Pointer::position_status_lem), unfolding(crate::specs::Pointer::moved_by))]
+pub fn take(pointer: Pointer, packet: &[u8]) -> Result<Pointer, Refusal>
     ensures { result ≡ moved_by pointer packet.now }
 {
-    let status = position::check(packet);
-    if status::number(status) != 0 {
-        return Positioned {
-            status: status,
-            pointer: pointer,
-        };
-    }
+    position::check(packet)?;
     let position = position::fields(packet);
-    if sequence::newer(pointer.known, pointer.sequence, position.sequence) {
-        Positioned {
-            status: Status::Accepted,
-            pointer: moved(pointer, position.sequence, position.x, position.y),
-        }
-    } else {
-        Positioned {
-            status: Status::NotNewer,
-            pointer: pointer,
-        }
+    if !sequence::newer(pointer.known, pointer.sequence, position.sequence) {
+        return Err(Refusal::NotNewer);
     }
+    Ok(moved(pointer, position))
 }
 
-// The call for positions: takes type 1 only. The answer is the pointer as the packet sets it, or the first refusal in 01's order.
-pub fn position(pointer: Pointer, packet: &[u8]) -> PointerAnswer
+// The call for positions: takes type 1 only. The same answer, with the refusal's place.
+#[tactic(auto, unfolding(crate::specs::Pointer::positioned, crate::specs::Pointer::moved_by))]
+pub fn position(pointer: Pointer, packet: &[u8]) -> Result<Pointer, Refused>
     ensures { result ≡ positioned pointer packet.now }
 {
-    let after = take(pointer, packet);
-    let status = after.status;
-    let moved = after.pointer;
-    if status::number(status) == 0 {
-        PointerAnswer::Accepted(moved)
-    } else {
-        PointerAnswer::Refused {
-            status: status,
-            place: 0,
-        }
-    }
+    Ok(take(pointer, packet)?)
 }

@@ -1,14 +1,14 @@
 -- Calls for starts and continuations by value: the records are given and returned. Assumes nothing.
-use Rattle.std.specs.Prelude.{ℕ, ◌≤◌, ◌≡◌, Bool, true, false, List, eqb, length, get_or}
+use Rattle.std.specs.Prelude.{ℕ, ◌≤◌, ◌≡◌, Bool, true, false, List, length, get_or, Result, Ok, Err}
 use Rattle.wire.specs.Sequence.{is_newer}
-use Rattle.wire.specs.Numbered.{Numbered, accepted_as, refused_as}
+use Rattle.wire.specs.Numbered.{numbered}
+use Rattle.wire.specs.Status.{number_of}
+use Rattle.wire.specs.declared.status.Refused.{Refused}
 use Rattle.cursor_fragment.specs.Fragment.{is_start, fragment_of}
 use Rattle.cursor_pointer.specs.declared.Pointer.{Pointer}
 use Rattle.cursor_picture.specs.declared.Picture.{Picture}
-use Rattle.cursor_picture.specs.declared.completeness.CompleteAnswer.TheVariants.{Yes}
 use Rattle.cursor_picture.specs.Completeness.{completeness}
-use Rattle.cursor_store.specs.declared.storing.StoreAnswer.{StoreAnswer}
-use Rattle.cursor_store.specs.declared.storing.StoreAnswer.TheVariants.{Accepted, Refused}
+use Rattle.cursor_store.specs.declared.storing.Stored.{Stored}
 use Rattle.cursor_store.specs.Judging.{of_opened}
 use Rattle.cursor_store.specs.Assembling.{store_status, Outcome}
 use Rattle.cursor_store.specs.Storing.{stored}
@@ -21,22 +21,18 @@ pub record State : Type 0 where
   pub image : List ℕ
   pub marks : List ℕ
 
--- the paper's number of an answer, and its place
-abbrev pub numbered : StoreAnswer → Numbered
-numbered (Accepted x) = accepted_as
-numbered (Refused s place) = refused_as s place
-
-abbrev pub is_accepted : StoreAnswer → Bool
-is_accepted a = eqb (numbered a).number 0
+abbrev pub is_accepted : Result Stored Refused → Bool
+is_accepted (Ok x) = true
+is_accepted (Err r) = false
 
 -- the answer to a packet, and what picture and marks then hold
-abbrev pub answered : State → List ℕ → Outcome StoreAnswer
+abbrev pub answered : State → List ℕ → Outcome (Result Stored Refused)
 answered s packet = stored s.pointer s.picture packet s.image s.marks
 
 -- the host keeps the records that an acceptance returns, and after a refusal those that it has
-abbrev pub kept : StoreAnswer → Pointer → Picture → List ℕ → List ℕ → State
-kept (Accepted x) p q image marks = record { pointer = x.pointer; picture = x.picture; image = image; marks = marks }
-kept (Refused s k) p q image marks = record { pointer = p; picture = q; image = image; marks = marks }
+abbrev pub kept : Result Stored Refused → Pointer → Picture → List ℕ → List ℕ → State
+kept (Ok x) p q image marks = record { pointer = x.pointer; picture = x.picture; image = image; marks = marks }
+kept (Err r) p q image marks = record { pointer = p; picture = q; image = image; marks = marks }
 
 -- the state after one call
 unfoldable pub next : State → List ℕ → State
@@ -51,7 +47,7 @@ by_value = record {
   marks = λ s. s.marks;
   accepts = λ s packet. is_accepted (answered s packet).answer;
   next = next;
-  Complete = λ s. completeness s.picture (length s.image) s.marks ≡ Yes;
+  Complete = λ s. completeness s.picture (length s.image) s.marks ≡ Ok true;
   Asked = λ s l. Unit {0};
 }
 
@@ -60,7 +56,7 @@ by_value = record {
 -- the number of an answer is that of the first check that refuses, 0 where none does; its place is 0
 abbrev pub NumberByChecks : Type 0
 NumberByChecks =
-    (s : State) (packet : List ℕ) → numbered (answered s packet).answer ≡ refused_as (store_status s.picture packet s.image s.marks) 0
+    (s : State) (packet : List ℕ) → numbered (answered s packet).answer ≡ record { number = number_of (store_status s.picture packet s.image s.marks); place = 0 }
 
 -- a refusal changes nothing
 unfoldable pub RefusalKeeps : Type 0

@@ -2,8 +2,8 @@
 -- proofs/Laws/DemandThree.antt; of the calls that hosts make, in crate cursor_calls. Assumes nothing.
 use Rattle.std.specs.Prelude.{ℕ, ◌<◌, ◌≡◌, ◌⊎◌, ◌↔◌, Bool, true, false, ◌||◌, List, [], ◌∷◌, length, get_or}
 use Rattle.scan.specs.Empty.{filled_at}
-use Rattle.wire.specs.Checks.{accepted}
-use Rattle.cursor_fragment.specs.Fragment.{is_start, fragment_of, fragment_status, data_of}
+use Rattle.wire.specs.Status.{accepted}
+use Rattle.cursor_fragment.specs.Fragment.{is_start, own_fields, fragment_of, fragment_status, data_of}
 use Rattle.cursor_fragment.specs.declared.start.Start.{Start}
 use Rattle.cursor_picture.specs.Picture.{held}
 use Rattle.wire.specs.Splice.{part}
@@ -45,7 +45,7 @@ Taken R w s (other packet ∷ l) = (R.accepts s packet ≡ false) × Taken R w (
 -- each start of the list has the start fields a
 abbrev pub StartsHave : Start → List Call → Type 0
 StartsHave a [] = Unit {0}
-StartsHave a (fragment packet ∷ l) = (is_start packet ≡ true → (fragment_of packet).start ≡ a) × StartsHave a l
+StartsHave a (fragment packet ∷ l) = (is_start packet ≡ true → own_fields (fragment_of packet) ≡ a) × StartsHave a l
 StartsHave a (other packet ∷ l) = StartsHave a l
 
 -- "their starts agreeing with each other and with any start fields already seen": there are start fields that each of these has
@@ -85,7 +85,7 @@ pub record SameFragment (packet packet' : List ℕ) : Type 0 where
   pub same_type : is_start packet ≡ is_start packet'
   pub same_offset : (fragment_of packet).offset ≡ (fragment_of packet').offset
   pub same_data : data_of packet ≡ data_of packet'
-  pub same_start : (fragment_of packet).start ≡ (fragment_of packet').start
+  pub same_start : own_fields (fragment_of packet) ≡ own_fields (fragment_of packet')
 
 -- one of these fragments in the list is the same as the packet's
 abbrev pub Among : List ℕ → List Call → Type 0

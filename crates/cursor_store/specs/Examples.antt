@@ -1,12 +1,14 @@
 -- Small examples of the definitions of this crate, `cursor_pointer` and `cursor_picture`, P9 and P10 of 01, "Proved table of small examples", among them.
 -- Those that end in `refl` are computed here; the proofs of `PremisesMet` and `SameFromBoth` stand in proofs/Laws/Examples.antt.
-use Rattle.std.specs.Prelude.{ℕ, ◌≤◌, ◌≡◌, refl, true, false, List, [], ◌∷◌, ◌++◌, pos, negsuc}
+use Rattle.std.specs.Prelude.{ℕ, ◌≤◌, ◌≡◌, refl, true, false, List, [], ◌∷◌, ◌++◌, pos, negsuc, Ok, Err}
 use Rattle.std.proofs.Common.{arith}
 use Rattle.wire.specs.Number.{number_in}
 use Rattle.wire.specs.Sequence.{distance, is_newer}
 use Rattle.wire.specs.Signed.{signed}
 use Rattle.wire.specs.Splice.{splice}
-use Rattle.wire.specs.declared.status.Status.TheVariants as status
+use Rattle.wire.specs.declared.status.Refusal.TheVariants as refusal
+use Rattle.wire.specs.Status.{accept, refused_at}
+use Rattle.wire.specs.Numbered.{numbered}
 use Rattle.scan.specs.Below.{some_below}
 use Rattle.scan.specs.Conflict.{conflict_in}
 use Rattle.scan.specs.Empty.{first_empty}
@@ -17,16 +19,14 @@ use Rattle.cursor_packet.specs.Rtp.{rtp_holds}
 use Rattle.cursor_packet.specs.Position.{position_checks, position_at}
 use Rattle.cursor_fragment.specs.Fragment.{takes_type, header_length, image_data, offset_bits, place_of, outside, fragment_frame, fragment_checks, fragment_as, fragment_of, data_of}
 use Rattle.cursor_fragment.specs.Start.{start_of, no_start, start_in, same_start}
-use Rattle.cursor_pointer.specs.declared.PointerAnswer.TheVariants as pointer
-use Rattle.cursor_pointer.specs.Pointer.{fresh_pointer, moved_to, position_status, positioned}
-use Rattle.cursor_picture.specs.declared.completeness.CompleteAnswer.TheVariants as complete
+use Rattle.cursor_pointer.specs.Pointer.{fresh_pointer, moved_to, position_status, moved_by, positioned}
 use Rattle.cursor_picture.specs.Picture.{fresh_picture, has_room, held}
 use Rattle.cursor_picture.specs.Completeness.{first_empty_of, completeness}
 use Rattle.cursor_store.specs.Judging.{of_opened, start_differs, bytes_differ, opened_rules, other_rules, judging, with_sequence}
 use Rattle.cursor_store.specs.Assembling.{store_checks, store_status, opened_by, opened_for, cleared_for, image_after, marks_after, with_start, picture_after, assembled_as, fragment_assembled, assembled}
 use Rattle.cursor_store.specs.Storing.{moves, pointer_after, stored}
 use Rattle.cursor_store.specs.Receiver.{Call, fragment, other, covers, run}
-use Rattle.cursor_store.specs.Calls.{State, numbered, is_accepted, answered, next, by_value}
+use Rattle.cursor_store.specs.Calls.{State, is_accepted, answered, next, by_value}
 use Rattle.cursor_store.specs.DemandThree.{Whole, Given, SameFragments, SameEnd}
 
 -- an RTP header; the sequence number's two bytes
@@ -37,13 +37,13 @@ rtp high low = 0x80 ∷ 0 ∷ high ∷ low ∷ 0 ∷ 0 ∷ 0 ∷ 0 ∷ 0 ∷ 0 �
 abbrev pub position9 : List ℕ
 position9 = rtp 0 5 ++ (1 ∷ 0 ∷ 7 ∷ 0xff ∷ 0xfe ∷ 0 ∷ 0x0a ∷ [])
 
-pub p9 : positioned fresh_pointer position9 ≡ pointer.Accepted (record { known = true; sequence = 5; x = negsuc 1; y = pos 10 })
-unfolding positioned position_status fresh_pointer moved_to is_newer position_checks position_at first_of frame_checks rtp_holds number_in signed
+pub p9 : positioned fresh_pointer position9 ≡ Ok (record { known = true; sequence = 5; x = negsuc 1; y = pos 10 })
+unfolding positioned moved_by position_status fresh_pointer moved_to is_newer position_checks position_at first_of frame_checks rtp_holds number_in signed
 p9 = refl
 
 -- the same packet again is not newer
-pub p9_again : positioned (record { known = true; sequence = 5; x = negsuc 1; y = pos 10 }) position9 ≡ pointer.Refused status.NotNewer 0
-unfolding positioned position_status moved_to is_newer distance position_checks position_at first_of frame_checks rtp_holds number_in signed
+pub p9_again : positioned (record { known = true; sequence = 5; x = negsuc 1; y = pos 10 }) position9 ≡ Err (refused_at refusal.NotNewer 0)
+unfolding positioned moved_by position_status moved_to is_newer distance position_checks position_at first_of frame_checks rtp_holds number_in signed
 p9_again = refl
 
 -- a continuation of total 8, id 1, with a PacketMsgSize below 256, an offset and data
@@ -55,9 +55,9 @@ nine = 0 ∷ 0 ∷ 0 ∷ 0 ∷ 0 ∷ 0 ∷ 0 ∷ 0 ∷ 0 ∷ []
 
 -- P10: total 8: offset 8 with no data fits; offset 7 with two bytes is 9; offset FFFFFFFF hex is 9
 pub p10
-    : (store_status fresh_picture (eight 13 (0 ∷ 0 ∷ 0 ∷ 8 ∷ [])) nine nine ≡ status.Accepted)
-    × (store_status fresh_picture (eight 15 (0 ∷ 0 ∷ 0 ∷ 7 ∷ 65 ∷ 66 ∷ [])) nine nine ≡ status.OutsideImage)
-    × (store_status fresh_picture (eight 13 (0xff ∷ 0xff ∷ 0xff ∷ 0xff ∷ [])) nine nine ≡ status.OutsideImage)
+    : (store_status fresh_picture (eight 13 (0 ∷ 0 ∷ 0 ∷ 8 ∷ [])) nine nine ≡ accept)
+    × (store_status fresh_picture (eight 15 (0 ∷ 0 ∷ 0 ∷ 7 ∷ 65 ∷ 66 ∷ [])) nine nine ≡ Err refusal.OutsideImage)
+    × (store_status fresh_picture (eight 13 (0xff ∷ 0xff ∷ 0xff ∷ 0xff ∷ [])) nine nine ≡ Err refusal.OutsideImage)
 unfolding store_status store_checks fresh_picture held has_room judging opened_rules other_rules of_opened is_newer fragment_checks fragment_frame first_of frame_checks rtp_holds number_in signed takes_type header_length image_data offset_bits place_of outside fragment_as
 p10 = (refl, refl, refl)
 
@@ -106,8 +106,8 @@ pub ends_with
     : ((run by_value opened forwards).image ≡ 65 ∷ 66 ∷ 67 ∷ 68 ∷ 99 ∷ [])
     × ((run by_value opened forwards).marks ≡ 1 ∷ 1 ∷ 1 ∷ 1 ∷ 7 ∷ [])
     × ((run by_value opened backwards).marks ≡ 1 ∷ 1 ∷ 1 ∷ 1 ∷ 7 ∷ [])
-    × (completeness (run by_value opened forwards).picture 5 (run by_value opened forwards).marks ≡ complete.Yes)
-    × (completeness opened.picture 5 opened.marks ≡ complete.No)
+    × (completeness (run by_value opened forwards).picture 5 (run by_value opened forwards).marks ≡ Ok true)
+    × (completeness opened.picture 5 opened.marks ≡ Ok false)
 unfolding run next stored assembled assembled_as store_status store_checks held has_room judging opened_rules other_rules of_opened same_start start_differs bytes_differ conflict_in some_below lesser is_newer distance moved_to opened_for cleared_for image_after marks_after with_start picture_after pointer_after splice fragment_checks fragment_frame first_of frame_checks rtp_holds number_in signed takes_type header_length image_data start_of no_start start_in offset_bits place_of outside fragment_as first_empty_of first_empty completeness
 ends_with = (refl, refl, refl, refl, refl)
 
@@ -135,7 +135,7 @@ former = record {
 pub wrap_opens
     : (of_opened former.picture (fragment_of (middle 0)) ≡ false) × (former.picture.opening ≡ 65535) × ((fragment_of (middle 0)).sequence ≡ 0)
     × (has_room (fragment_of (middle 0)).total 5 5 ≡ true)
-    × (first_of (judging former.picture (fragment_of (middle 0)) (data_of (middle 0)) former.image former.marks) ≡ status.Accepted)
+    × (first_of (judging former.picture (fragment_of (middle 0)) (data_of (middle 0)) former.image former.marks) ≡ accept)
 unfolding has_room judging opened_rules other_rules of_opened is_newer distance first_of number_in signed header_length image_data start_in no_start offset_bits place_of fragment_as
 wrap_opens = (refl, refl, refl, refl, refl)
 

@@ -5,10 +5,12 @@
 use Rattle.std.specs.Prelude.{ℕ, ◌≡◌, Bool, true, false, not, cond, ◌&&◌, ◌||◌, List, [], ◌∷◌, eqb, length}
 use Rattle.wire.specs.Sequence.{is_newer}
 use Rattle.wire.specs.Splice.{part}
-use Rattle.wire.specs.declared.status.Status.TheVariants as status
+use Rattle.wire.specs.Status.{accept}
+use Rattle.wire.specs.declared.status.Refusal.TheVariants as refusal
 use Rattle.scan.specs.Conflict.{conflict_in}
 use Rattle.wire.specs.Checks.{Check, refuse, first_of}
 use Rattle.cursor_fragment.specs.declared.Fragment.{Fragment}
+use Rattle.cursor_fragment.specs.Fragment.{starts, own_fields}
 use Rattle.cursor_fragment.specs.Start.{same_start}
 use Rattle.cursor_picture.specs.declared.Picture.{Picture}
 use Rattle.cursor_picture.specs.Picture.{has_room}
@@ -23,7 +25,7 @@ opens q f = is_newer q.opened q.opening f.sequence
 
 -- a second start differs in its own fields
 unfoldable pub start_differs : Picture → Fragment → Bool
-start_differs q f = f.starts && (q.seen && not (same_start q.start f.start))
+start_differs q f = starts f && (q.seen && not (same_start q.start (own_fields f)))
 
 -- a filled place would get another byte: the data's own places are compared
 unfoldable pub bytes_differ : ℕ → List ℕ → List ℕ → List ℕ → Bool
@@ -32,24 +34,24 @@ bytes_differ offset ds image marks = conflict_in (part offset (length ds) marks)
 -- the checks on a fragment f with the data ds, the record being q, and picture and marks being lent: of the opened id, 12 and 13
 unfoldable pub opened_rules : Picture → Fragment → List ℕ → List ℕ → List ℕ → List Check
 opened_rules q f ds image marks =
-    refuse status.TotalDiffers (not (eqb q.total f.total))
-    ∷ refuse status.Conflict (start_differs q f || bytes_differ f.offset ds image marks)
+    refuse refusal.TotalDiffers (not (eqb q.total f.total))
+    ∷ refuse refusal.Conflict (start_differs q f || bytes_differ f.offset ds image marks)
     ∷ []
 
 -- of another id, or where no picture is opened, 11
 unfoldable pub other_rules : Picture → Fragment → List Check
-other_rules q f = refuse status.NotNewer (not (opens q f)) ∷ []
+other_rules q f = refuse refusal.NotNewer (not (opens q f)) ∷ []
 
 -- 10, then these rules
 unfoldable pub judging : Picture → Fragment → List ℕ → List ℕ → List ℕ → List Check
 judging q f ds image marks =
-    refuse status.NoRoom (not (has_room f.total (length image) (length marks)))
+    refuse refusal.NoRoom (not (has_room f.total (length image) (length marks)))
     ∷ cond (of_opened q f) (opened_rules q f ds image marks) (other_rules q f)
 
 -- The proofs of these laws stand in proofs/Laws/Judging.antt.
 
 abbrev pub with_sequence : ℕ → Fragment → Fragment
-with_sequence n f = record { sequence = n; total = f.total; id = f.id; offset = f.offset; starts = f.starts; start = f.start }
+with_sequence n f = record { sequence = n; total = f.total; id = f.id; offset = f.offset; start = f.start }
 
 -- a fragment of the opened id is judged without a look at its sequence number: an old one is stored as a new one is
 unfoldable pub SequenceIgnored : Type 0
@@ -61,4 +63,4 @@ SequenceIgnored =
 unfoldable pub WrapOpens : Type 0
 WrapOpens =
     (q : Picture) (f : Fragment) (ds image marks : List ℕ) → of_opened q f ≡ false → q.opening ≡ 65535 → f.sequence ≡ 0
-    → has_room f.total (length image) (length marks) ≡ true → first_of (judging q f ds image marks) ≡ status.Accepted
+    → has_room f.total (length image) (length marks) ≡ true → first_of (judging q f ds image marks) ≡ accept

@@ -2,82 +2,46 @@
 // changed here.
 ghost use Rattle.std.specs.Prelude.{◌≡◌, ◌+◌, ◌≤◌, length};
 ghost use Rattle.wire.specs.Checks.{first_of};
-ghost use Rattle.cursor_store.specs.Judging.{of_opened, start_differs, bytes_differ, opened_rules, other_rules, judging};
+ghost use Rattle.cursor_store.specs.Judging.{of_opened, start_differs, other_rules, judging};
 
-use cursor_fragment::{Fragment, start};
+use cursor_fragment::Fragment;
 use cursor_picture::Picture;
 use scan::conflict;
 use wire::sequence;
-use wire::status::Status;
+use wire::status::{Refusal, Status};
 
 // Whether a picture is opened and the fragment is of its id.
+#[tactic(auto, unfolding(crate::specs::Judging::of_opened))]
 pub(crate) fn of_opened(picture: Picture, fragment: Fragment) -> bool
     ensures { result ≡ of_opened picture fragment }
 {
-    if picture.opened {
-        return picture.id == fragment.id;
-    }
-    false
+    picture.opened && picture.id == fragment.id
 }
 
 // Whether the fragment is a second start that differs in its own fields.
+#[tactic(auto, unfolding(crate::specs::Judging::start_differs, cursor_fragment::specs::Start::same_start))]
 fn start_differs(picture: Picture, fragment: Fragment) -> bool
     ensures { result ≡ start_differs picture fragment }
 {
-    if fragment.starts {
-        if picture.seen {
-            let old = picture.start;
-            let new = fragment.start;
-            return !start::same(old, new);
-        }
-    }
-    false
-}
-
-// Whether a filled place would get another byte.
-fn bytes_differ(offset: u32, data: &[u8], image: &[u8], marks: &[u8]) -> bool
-    requires { (offset + length «data».now ≤ length image.now) × (offset + length «data».now ≤ length marks.now) }
-    ensures { result ≡ bytes_differ offset «data».now image.now marks.now }
-{
-    let at = offset as usize;
-    let end = at + data.len();
-    conflict::found(&marks[at..end], &image[at..end], data)
-}
-
-// A fragment of the opened id: another total is 12, a conflict 13. Its sequence number is not looked at.
-fn judge_opened(
-    picture: Picture,
-    fragment: Fragment,
-    data: &[u8],
-    image: &[u8],
-    marks: &[u8],
-) -> Status
-    requires { (fragment.offset + length «data».now ≤ length image.now) × (fragment.offset + length «data».now ≤ length marks.now) }
-    ensures { result ≡ first_of (opened_rules picture fragment «data».now image.now marks.now) }
-{
-    if picture.total != fragment.total {
-        return Status::TotalDiffers;
-    }
-    if start_differs(picture, fragment) {
-        return Status::Conflict;
-    }
-    if bytes_differ(fragment.offset, data, image, marks) {
-        return Status::Conflict;
-    }
-    Status::Accepted
+    fragment
+        .start
+        .is_some_and(|start| picture.seen && picture.start != start)
 }
 
 // A fragment of another id, or where no picture is opened: it opens a picture if it is newer, else it is 11.
+#[tactic(auto, unfolding(crate::specs::Judging::other_rules, wire::specs::Checks::first_of))]
 fn judge_other(picture: Picture, fragment: Fragment) -> Status
     ensures { result ≡ first_of (other_rules picture fragment) }
 {
     if sequence::newer(picture.opened, picture.opening, fragment.sequence) {
-        return Status::Accepted;
+        return Ok(());
     }
-    Status::NotNewer
+    Err(Refusal::NotNewer)
 }
 
-// The first refusal, or Accepted: 10 where there is no room for the fragment's total, then the rules for the opened id or for another.
+// The first refusal, or Accepted: 10 where there is no room for the fragment's total; of another id than the opened one's, 11; of the opened
+// id another total is 12, a conflict 13, and its sequence number is not looked at.
+#[tactic(auto, unfolding(crate::specs::Judging::judging, crate::specs::Judging::opened_rules, crate::specs::Judging::bytes_differ, wire::specs::Checks::first_of, cursor_picture::specs::Picture::has_room))]
 pub(crate) fn judge(
     picture: Picture,
     fragment: Fragment,
@@ -89,10 +53,18 @@ pub(crate) fn judge(
     ensures { result ≡ first_of (judging picture fragment «data».now image.now marks.now) }
 {
     if !cursor_picture::has_room(fragment.total, image.len(), marks.len()) {
-        return Status::NoRoom;
+        return Err(Refusal::NoRoom);
     }
-    if of_opened(picture, fragment) {
-        return judge_opened(picture, fragment, data, image, marks);
+    if !of_opened(picture, fragment) {
+        return judge_other(picture, fragment);
     }
-    judge_other(picture, fragment)
+    if picture.total != fragment.total {
+        return Err(Refusal::TotalDiffers);
+    }
+    let at = fragment.offset as usize;
+    let end = at + data.len();
+    if start_differs(picture, fragment) || conflict::found(&marks[at..end], &image[at..end], data) {
+        return Err(Refusal::Conflict);
+    }
+    Ok(())
 }

@@ -6,44 +6,45 @@ use mathlib.Core.Logic.{◌↔◌}
 use mathlib.Core.Bool.{Bool, true, false, cond, ◌||◌, false≢true}
 use mathlib.Core.List.{List, [], ◌∷◌}
 use native.Mathlib.Omega.{arith}
-use borrow.Author.Tests.{leb-true, le-leb}
+use borrow.Author.Tests.{leb-true, le-leb, ne_eqb}
 use lib.Dec.{eqb, leb}
 use lib.ListN.{length, get_or}
-use Rattle.wire.specs.Checks.{accepted}
+use Rattle.std.specs.Prelude.{Result, Ok, Err}
+use Rattle.wire.specs.Status.{Status, refusal_number}
+use Rattle.wire.specs.declared.status.Refused.{Refused}
+use Rattle.wire.proofs.Laws.Status.{number_positive}
 use Rattle.wire.specs.Laid.{laid}
 use Rattle.wire.specs.Number.{number, Bytes}
 use Rattle.wire.specs.Signed.{signed}
-use Rattle.wire.specs.declared.status.Status.{Status}
 use Rattle.wire.proofs.Laws.Bool.{both, by_test}
 use Rattle.wire.proofs.Laws.Bytes.{laid_bytes}
 use Rattle.wire.proofs.Laws.Laid.{length_laid}
 use Rattle.wire.proofs.Laws.Number.{number_small}
 use Rattle.scan.specs.Empty.{filled_at}
 use Rattle.cursor_packet.specs.Position.{position_at}
-use Rattle.cursor_fragment.specs.Fragment.{is_start, fragment_as, fragment_of, data_of}
+use Rattle.cursor_fragment.specs.Fragment.{is_start, fragment_as, fragment_of}
 use Rattle.cursor_fragment.specs.Start.{start_of, no_start, start_in}
 use Rattle.cursor_fragment.specs.declared.Fragment.{Fragment}
 use Rattle.cursor_pointer.specs.declared.Pointer.{Pointer}
 use Rattle.cursor_pointer.specs.Pointer.{moved_to}
 use Rattle.cursor_picture.specs.declared.Picture.{Picture}
-use Rattle.cursor_picture.specs.declared.completeness.CompleteAnswer.{CompleteAnswer}
-use Rattle.cursor_picture.specs.declared.completeness.CompleteAnswer.TheVariants as complete
 use Rattle.cursor_picture.specs.Completeness.{completeness}
 use Rattle.cursor_store.specs.Judging.{of_opened}
-use Rattle.cursor_store.specs.Assembling.{store_status, opened_by, opened_for, image_after, marks_after, with_start, picture_after}
+use Rattle.cursor_store.specs.declared.storing.Stored.{Stored}
+use Rattle.cursor_store.specs.Assembling.{Outcome, store_status, opened_by, opened_for, with_start, picture_after}
 use Rattle.cursor_store.specs.Storing.{moves, pointer_after}
 use Rattle.cursor_store.specs.Receiver.{Call, fragment, other, packet_of, run}
-use Rattle.cursor_store.specs.Calls.{State, is_accepted, answered, next, by_value}
+use Rattle.cursor_store.specs.Calls.{State, is_accepted, answered, kept, next, by_value}
 use Rattle.cursor_store.specs.DemandThree.{Whole, total_of, Taken, Given, covered, started, AllAccepted}
-use Rattle.cursor_store.proofs.Laws.Storing.{pointer_start, pointer_kept, stored_accepted, stored_refused}
+use Rattle.cursor_store.proofs.Laws.Storing.{pointer_start, pointer_kept, stored_as, stored_is}
 use Rattle.cursor_store.proofs.Laws.DemandThree.{demand_three}
 use Rattle.cursor_layout.specs.PointerLayout.{pointer_length, pointer_bytes, pointer_of}
-use Rattle.cursor_layout.specs.PictureLayout.{picture_length, picture_of, picture_left, PictureFits}
+use Rattle.cursor_layout.specs.PictureLayout.{picture_length, picture_of, PictureFits}
 use Rattle.cursor_layout.proofs.Laws.PointerLayout.{signed_small, pointer_reads_back, pointer_bytes_lem}
 use Rattle.cursor_layout.proofs.Laws.PictureLayout.{picture_fits, left_reads, left_length, left_bytes}
 use Rattle.host_answers.specs.declared.Yes.{Yes}
-use Rattle.host_answers.specs.Answers.{accepted as accepted_answer, refused}
-use Rattle.cursor_calls.specs.CursorCalls.{records_whole, pointer_left, after_store, cursor_store, yes_or_no, cursor_complete}
+use Rattle.host_answers.specs.Answers.{yes_of}
+use Rattle.cursor_calls.specs.CursorCalls.{records_whole, pointer_left, StoreOutcome, all_answered, cursor_store, cursor_complete}
 use Rattle.cursor_calls.specs.Records.{Lent, called, next_lent, RecordsLent, PacketsLent, over_records, decoded, StoredFits, RunDecoded, DemandThreeOverRecords}
 
 -- What an accepted packet leaves fits the layouts.
@@ -136,61 +137,57 @@ module _ (s : Lent) (r : RecordsLent s) (packet : List ℕ) where
   abbrev judged : Status
   judged = store_status q packet s.image s.marks
 
-  called_accepted
-      : accepted judged ≡ true
-      → called s packet
-      ≡ after_store accepted_answer (pointer_left packet (pointer_after p packet) s.pointer) (picture_left q (picture_after q (fragment_of packet)) s.picture)
-      (image_after (fragment_of packet) (data_of packet) s.image) (marks_after q (fragment_of packet) (data_of packet) s.marks)
-  unfolding cursor_store
-  called_accepted e = simp r.whole (rw (stored_accepted p q packet s.image s.marks e))
+  -- what the call by value answers and leaves, and the call over records, by the status of the checks
+  abbrev valued : Status → Outcome (Result Stored Refused)
+  valued = stored_as p q packet s.image s.marks
 
-  called_refused
-      : accepted judged ≡ false → called s packet ≡ after_store (refused judged 0) s.pointer s.picture s.image s.marks
+  abbrev called_as : Status → StoreOutcome
+  called_as st = all_answered packet (valued st) s.pointer s.picture
+
+  called_is : called s packet ≡ called_as judged
   unfolding cursor_store
-  called_refused e = simp r.whole (rw (stored_refused p q packet s.image s.marks e))
+  called_is = simp r.whole (rw (stored_is p q packet s.image s.marks))
 
   accepts_same : eqb (called s packet).answer.status 0 ≡ is_accepted (answered (decoded s) packet).answer
-  accepts_same = go (accepted judged) refl
+  accepts_same = rw (called_is, stored_is p q packet s.image s.marks) (go judged)
     where
-      go : (b : Bool) → accepted judged ≡ b → eqb (called s packet).answer.status 0 ≡ is_accepted (answered (decoded s) packet).answer
-      go true e = rw (called_accepted e, stored_accepted p q packet s.image s.marks e)
-      go false e = rw (called_refused e, stored_refused p q packet s.image s.marks e)
+      go : (st : Status) → eqb (called_as st).answer.status 0 ≡ is_accepted (valued st).answer
+      go (Ok u) = refl
+      go (Err x) = ne_eqb (refusal_number x) 0 (λ e. let more = number_positive x in let no : ⊥ = omega arith in no)
 
   module _ (small : Bytes packet) where
     step_decoded : decoded (next_lent s packet) ≡ next (decoded s) packet
     unfolding next_lent next
-    step_decoded = go (accepted judged) refl
+    step_decoded = rw (called_is, stored_is p q packet s.image s.marks) (go judged)
       where
-        go : (b : Bool) → accepted judged ≡ b → decoded (next_lent s packet) ≡ next (decoded s) packet
-        go true e =
+        go : (st : Status)
+            → record { pointer = pointer_of (called_as st).pointer; picture = picture_of (called_as st).picture; image = (called_as st).image; marks = (called_as st).marks }
+            ≡ kept (valued st).answer p q (valued st).image (valued st).marks
+        go (Ok u) =
             rw (
-              called_accepted e,
-              stored_accepted p q packet s.image s.marks e,
               pointer_left_reads packet small s.pointer (lengths s r).0,
               left_reads (picture_after q (fragment_of packet)) s.picture (stored_fits q packet (picture_fits s.picture r.picture) small) (lengths s r).1,
             )
-        go false e = rw (called_refused e, stored_refused p q packet s.image s.marks e)
+        go (Err x) = refl
 
     still_lent : RecordsLent (next_lent s packet)
     unfolding next_lent
-    still_lent = go (accepted judged) refl
+    still_lent = rw called_is (go judged)
       where
-        go : (b : Bool) → accepted judged ≡ b → RecordsLent (next_lent s packet)
-        go true e =
-            rw (called_accepted e)
-            (record {
-              whole = rw (pointer_left_length packet small s.pointer, left_length (picture_after q (fragment_of packet)) s.picture) r.whole;
-              pointer = pointer_left_bytes packet small s.pointer r.pointer;
-              picture = left_bytes (picture_after q (fragment_of packet)) s.picture r.picture;
-            })
-        go false e = rw (called_refused e) r
+        go : (st : Status) → RecordsLent (record { pointer = (called_as st).pointer; picture = (called_as st).picture; image = (called_as st).image; marks = (called_as st).marks })
+        go (Ok u) = record {
+          whole = rw (pointer_left_length packet small s.pointer, left_length (picture_after q (fragment_of packet)) s.picture) r.whole;
+          pointer = pointer_left_bytes packet small s.pointer r.pointer;
+          picture = left_bytes (picture_after q (fragment_of packet)) s.picture r.picture;
+        }
+        go (Err x) = r
 
 -- The completeness question.
 
-is_yes : (a : CompleteAnswer) → yes_or_no a ≡ record { status = 0; yes = true } → a ≡ complete.Yes
-is_yes complete.Yes h = refl
-is_yes complete.No h = absurd (false≢true (ap (λ (y : Yes). y.yes) h))
-is_yes (complete.Refused st place) h = absurd (false≢true (ap (λ (y : Yes). y.yes) h))
+is_yes : (a : Result Bool Refused) → yes_of a ≡ record { status = 0; yes = true } → a ≡ Ok true
+is_yes (Ok true) h = refl
+is_yes (Ok false) h = absurd (false≢true (ap (λ (y : Yes). y.yes) h))
+is_yes (Err r) h = absurd (false≢true (ap (λ (y : Yes). y.yes) h))
 
 complete_same
     : (s : Lent) → RecordsLent s
@@ -199,7 +196,7 @@ unfolding cursor_complete
 complete_same s r =
     let there : leb picture_length (length s.picture) ≡ true = le-leb _ _ (lengths s r).1 in (
       λ h. is_yes (completeness (picture_of s.picture) (length s.image) s.marks) (simp there at h),
-      λ h. simp there (ap yes_or_no h),
+      λ h. simp there (ap yes_of h),
     )
 
 -- Lists of calls.

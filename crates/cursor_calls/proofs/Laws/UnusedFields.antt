@@ -8,12 +8,13 @@ use mathlib.Core.Logic.{◌↔◌}
 use borrow.Author.Tests.{leb-true, le-leb}
 use lib.Dec.{leb}
 use lib.ListN.{length}
+use Rattle.std.specs.Prelude.{Result, Ok, Err}
+use Rattle.wire.specs.declared.status.Refused.{Refused}
 use Rattle.wire.proofs.Laws.Bool.{impossible}
 use Rattle.cursor_packet.specs.UnusedFields.{WrongRtp}
 use Rattle.cursor_packet.proofs.Laws.UnusedFields.{unused_ignored}
 use Rattle.cursor_pointer.proofs.Laws.UnusedFields.{positioned_alike, three_at_position}
-use Rattle.cursor_store.specs.declared.storing.StoreAnswer.{StoreAnswer}
-use Rattle.cursor_store.specs.declared.storing.StoreAnswer.TheVariants as store
+use Rattle.cursor_store.specs.declared.storing.Stored.{Stored}
 use Rattle.cursor_store.proofs.Laws.UnusedFields.{moves_alike, stored_alike, three_at_store}
 use Rattle.cursor_layout.specs.PointerLayout.{pointer_length, pointer_of}
 use Rattle.cursor_layout.specs.PictureLayout.{picture_of}
@@ -29,10 +30,10 @@ pub store_unused_ignored : StoreUnusedIgnored
 unfolding cursor_store pointer_left
 store_unused_ignored ps qs a b image marks d =
     let r = unused_ignored a b d in
-    let left : (x : StoreAnswer) (bytes filled : List ℕ) → store_answered a x ps qs bytes filled ≡ store_answered b x ps qs bytes filled
-    = λ x bytes filled. elim x as (λ (y : StoreAnswer). store_answered a y ps qs bytes filled ≡ store_answered b y ps qs bytes filled) [
-      | store.Accepted y ↦ rw (moves_alike a b r (pointer_of ps))
-      | store.Refused st place ↦ refl
+    let left : (x : Result Stored Refused) (bytes filled : List ℕ) → store_answered a x ps qs bytes filled ≡ store_answered b x ps qs bytes filled
+    = λ x bytes filled. elim x as (λ (y : Result Stored Refused). store_answered a y ps qs bytes filled ≡ store_answered b y ps qs bytes filled) [
+      | Ok y ↦ rw (moves_alike a b r (pointer_of ps))
+      | Err y ↦ refl
     ] in
     rw (stored_alike a b r (pointer_of ps) (picture_of qs) image marks) (rw (left _ _ _))
 

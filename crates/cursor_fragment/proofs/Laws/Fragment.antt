@@ -1,6 +1,7 @@
 -- Laws of fragments: check 9 case by case, and what holds of an accepted packet. Assumes nothing.
 use Prim.Native.Nat.{ℕ, ◌+◌, ◌-◌, ◌*◌, ◌^◌, min, ◌≤◌, ◌<◌}
 use mathlib.Core.Path.{◌≡◌, refl, sym, ap, ◌∙◌}
+use Rattle.std.specs.Prelude.{Ok, Err}
 use mathlib.Core.Bool.{Bool, true, false, cond, false≢true}
 use mathlib.Core.List.{List, [], ◌∷◌}
 use native.Mathlib.Omega.{arith}
@@ -11,15 +12,12 @@ use lib.IntN.{ℤ, pos, negsuc}
 use lib.ListN.{length, length-drop}
 use Rattle.wire.specs.Number.{number}
 use Rattle.wire.specs.Signed.{signed}
-use Rattle.wire.specs.declared.status.Status.{Status}
-use Rattle.wire.specs.declared.status.Status.TheVariants as status
-use Rattle.wire.specs.Checks.{refuse, first_of, accepted, refusing}
-use Rattle.cursor_packet.specs.Frame.{frame_checks}
-use Rattle.cursor_fragment.specs.Fragment.{is_start, header_length, image_data, offset_bits, offset_of, place_of, outside, is_outside, fragment_frame, fragment_checks, fragment_as, fragment_of, fragment_status, data_of, read_fragment, numbered, NumberByChecks, OffsetKept, DataInside}
-use Rattle.cursor_fragment.specs.declared.FragmentAnswer.{FragmentAnswer}
-use Rattle.wire.specs.Numbered.{refused_as}
-use Rattle.wire.proofs.Laws.Bool.{by_test}
-use Rattle.wire.proofs.Laws.Checks.{first_append, accepted_as_lem}
+use Rattle.wire.specs.declared.status.Refusal.TheVariants as refusal
+use Rattle.wire.specs.Status.{Status, accept, accepted}
+use Rattle.wire.specs.Checks.{refuse, first_of}
+use Rattle.cursor_fragment.specs.Fragment.{is_start, header_length, image_data, offset_bits, offset_of, place_of, outside, is_outside, fragment_frame, fragment_checks, fragment_as, starts, fragment_of, fragment_status, data_of, read_fragment, NumberByChecks, OffsetKept, DataInside}
+use Rattle.cursor_fragment.specs.Start.{start_in}
+use Rattle.wire.proofs.Laws.Checks.{first_append, numbered_passed}
 
 -- more data than the total
 pub outside_large : (z : ℤ) (n t : ℕ) → t < n → outside z n t ≡ true
@@ -64,29 +62,17 @@ pub body_outside
 body_outside starts p size e = rw (data_length starts p size e)
 
 -- the checks on the frame, then 9
-module _ (starts : Bool) (p : List ℕ) where
-  frame_refuses : refusing (fragment_frame starts p) ≡ true
-  unfolding refusing fragment_frame frame_checks
-  frame_refuses = refl
-
-  pub checks_refuse : refusing (fragment_checks starts p) ≡ true
-  unfolding refusing fragment_checks fragment_frame frame_checks
-  checks_refuse = refl
-
-  pub checks_are
-      : first_of (fragment_checks starts p)
-      ≡ cond (accepted (first_of (fragment_frame starts p))) (cond (is_outside starts p) status.OutsideImage status.Accepted) (first_of (fragment_frame starts p))
-  unfolding fragment_checks first_of
-  checks_are = first_append (fragment_frame starts p) (refuse status.OutsideImage (is_outside starts p) ∷ []) frame_refuses
+checks_are
+    : (starts : Bool) (p : List ℕ) → first_of (fragment_checks starts p)
+    ≡ cond (accepted (first_of (fragment_frame starts p))) (cond (is_outside starts p) (Err refusal.OutsideImage) accept) (first_of (fragment_frame starts p))
+unfolding fragment_checks first_of
+checks_are starts p = first_append (fragment_frame starts p) (refuse refusal.OutsideImage (is_outside starts p) ∷ [])
 
 -- an accepted packet passed check 9
-passed : (s : Status) (b : Bool) → accepted (cond (accepted s) (cond b status.OutsideImage status.Accepted) s) ≡ true → b ≡ false
-passed s b h = go (accepted s) refl b h
-  where
-    go : (a : Bool) → accepted s ≡ a → (b : Bool) → accepted (cond a (cond b status.OutsideImage status.Accepted) s) ≡ true → b ≡ false
-    go true e true k = absurd (false≢true k)
-    go true e false k = refl
-    go false e b k = absurd (false≢true (sym e ∙ k))
+nine_passed : (s : Status) (b : Bool) → accepted (cond (accepted s) (cond b (Err refusal.OutsideImage) accept) s) ≡ true → b ≡ false
+nine_passed (Ok u) true h = absurd (false≢true h)
+nine_passed (Ok u) false h = refl
+nine_passed (Err r) b h = absurd (false≢true h)
 
 is_place : (z : ℤ) (n t : ℕ) → outside z n t ≡ false → (z ≡ pos (place_of z)) × (place_of z + n ≤ t)
 unfolding outside place_of
@@ -96,7 +82,7 @@ is_place (negsuc k) n t e = absurd (false≢true (sym e))
 module _ (p : List ℕ) (h : accepted (fragment_status p) ≡ true) where
   nine : (offset_of (is_start p) p ≡ pos (place_of (offset_of (is_start p) p))) × (place_of (offset_of (is_start p) p) + length (data_of p) ≤ number 4 p 15)
   nine = is_place (offset_of (is_start p) p) (length (data_of p)) (number 4 p 15)
-      (passed (first_of (fragment_frame (is_start p) p)) (is_outside (is_start p) p) (ap accepted (sym (checks_are (is_start p) p)) ∙ h))
+      (nine_passed (first_of (fragment_frame (is_start p) p)) (is_outside (is_start p) p) (ap accepted (sym (checks_are (is_start p) p)) ∙ h))
 
 pub offset_kept : OffsetKept
 unfolding OffsetKept fragment_as
@@ -111,12 +97,14 @@ unfolding header_length
 header_small true = omega arith
 header_small false = omega arith
 
-pub starts_is : (p : List ℕ) → (fragment_of p).starts ≡ is_start p
-unfolding fragment_as
-starts_is p = refl
+pub starts_is : (p : List ℕ) → starts (fragment_of p) ≡ is_start p
+unfolding fragment_as start_in
+starts_is p = go (is_start p)
+  where
+    go : (b : Bool) → starts (fragment_as b p) ≡ b
+    go true = refl
+    go false = refl
 
 pub number_by_checks : NumberByChecks
 unfolding read_fragment
-number_by_checks p =
-    let st = fragment_status p in
-    by_test (λ (a : FragmentAnswer). numbered a ≡ refused_as st 0) (accepted st) _ _ (accepted_as_lem st) (λ e. refl)
+number_by_checks p = numbered_passed (fragment_status p) (fragment_of p)

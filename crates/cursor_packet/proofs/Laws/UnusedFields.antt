@@ -10,7 +10,7 @@ use lib.Dec.{eqb, ltb}
 use lib.ListN.{length, get_or, drop}
 use lib.Seq.{get_or-take, get_or-drop, drop-drop}
 use Rattle.wire.specs.Number.{number}
-use Rattle.wire.specs.declared.status.Status.TheVariants as status
+use Rattle.wire.specs.declared.status.Refusal.TheVariants as refusal
 use Rattle.wire.specs.Checks.{Check, refuse}
 use Rattle.wire.proofs.Laws.Bool.{and_false}
 use Rattle.wire.proofs.Laws.Checks.{lacking, other_first, own_check}
@@ -91,7 +91,7 @@ module _ (p : List ℕ) (long : 15 ≤ length p) where
 -- the checks after that of the header
 module _ (taken fits : Bool) (p : List ℕ) where
   abbrev after : List Check
-  after = refuse status.UnknownKind (not taken) ∷ size_checks fits p
+  after = refuse refusal.UnknownKind (not taken) ∷ size_checks fits p
 
   none_after : lacking 3 after ≡ true
   unfolding lacking
@@ -100,8 +100,8 @@ module _ (taken fits : Bool) (p : List ℕ) where
 pub three_exactly : ThreeExactly
 unfolding frame_checks
 three_exactly taken fits p =
-    let short = other_first 3 refl status.Truncated (ltb (length p) 15) (refuse status.WrongHeader (not (rtp_holds p)) ∷ after taken fits p) refl in
-    let header = own_check 3 refl status.WrongHeader (not (rtp_holds p)) (after taken fits p) refl (none_after taken fits p) in (
+    let short = other_first 3 refl refusal.Truncated (ltb (length p) 15) (refuse refusal.WrongHeader (not (rtp_holds p)) ∷ after taken fits p) refl in
+    let header = own_check 3 refl refusal.WrongHeader (not (rtp_holds p)) (after taken fits p) refl (none_after taken fits p) in (
       (λ e. let h = short.0 e in let l = ltb-false (length p) 15 h.0 in (l, by_bytes p l (header.0 h.1))),
       λ w. short.1 (le-ltb (length p) 15 w.0, header.1 (by_rule p w.0 w.1)),
     )

@@ -8,13 +8,14 @@ use borrow.Author.Tests.{eq-eqb, eqb-true, not-true}
 use lib.Dec.{eqb}
 use lib.ListN.{length, take}
 use lib.Seq.{length-take-le, get_or-take}
-use Rattle.wire.specs.Numbered.{accepted_as, refused_as}
-use Rattle.wire.specs.declared.status.Status.TheVariants as status
+use Rattle.std.specs.Prelude.{Ok, Err}
+use Rattle.wire.specs.Status.{refused_at}
+use Rattle.wire.specs.Numbered.{numbered, accepted_as, refused_as}
+use Rattle.wire.specs.declared.status.Refusal.TheVariants as refusal
 use Rattle.scan.specs.Empty.{empty_at, filled_at}
 use Rattle.scan.proofs.Laws.Empty.{first_none, first_before}
-use Rattle.cursor_picture.specs.declared.completeness.CompleteAnswer.TheVariants.{Yes, No, Refused}
 use Rattle.cursor_picture.specs.Picture.{held}
-use Rattle.cursor_picture.specs.Completeness.{first_empty_of, all_filled, completeness, numbered, NumberByHeld}
+use Rattle.cursor_picture.specs.Completeness.{first_empty_of, all_filled, completeness, NumberByHeld}
 
 module _ (marks : List ℕ) (total : ℕ) where
   same_mark : (i : ℕ) → i < total → empty_at (take total marks) i ≡ empty_at marks i
@@ -38,7 +39,6 @@ unfolding completeness
 number_by_held q image marks =
     go (held q image (length marks)) (q.opened && (q.seen && all_filled marks q.total))
   where
-    go : (h y : Bool) → numbered (cond h (cond y Yes No) (Refused status.ImageNotHeld 0)) ≡ cond h accepted_as (refused_as status.ImageNotHeld 0)
-    go true true = refl
-    go true false = refl
+    go : (h y : Bool) → numbered (cond h (Ok y) (Err (refused_at refusal.ImageNotHeld 0))) ≡ cond h accepted_as (refused_as (refused_at refusal.ImageNotHeld 0))
+    go true y = refl
     go false y = refl

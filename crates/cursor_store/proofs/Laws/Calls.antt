@@ -2,18 +2,18 @@
 -- sequence number that later fragments of other ids are held to. Assumes nothing.
 use Prim.Native.Nat.{ℕ, ◌+◌, ◌≤◌}
 use mathlib.Core.Path.{◌≡◌, refl, sym, ap, ◌∙◌}
-use mathlib.Core.Bool.{Bool, true, false, cond}
+use mathlib.Core.Bool.{Bool, true, false, cond, false≢true}
 use mathlib.Core.List.{List}
 use native.Mathlib.Omega.{arith}
 use borrow.Author.Tests.{ne_eqb, not-false}
 use lib.ListN.{length, get_or, replicate, length-replicate}
 use Rattle.wire.specs.Splice.{splice}
-use Rattle.wire.specs.declared.status.Status.{Status}
+use Rattle.std.specs.Prelude.{Ok, Err}
+use Rattle.wire.specs.Status.{Status, accepted, number_of}
 use Rattle.wire.proofs.Laws.Splice.{length_splice, after_part, get_d_splice}
-use Rattle.wire.specs.Checks.{first_of, accepted}
-use Rattle.wire.specs.Numbered.{refused_as}
-use Rattle.wire.proofs.Laws.Checks.{accepted_as_lem}
-use Rattle.cursor_fragment.specs.Fragment.{is_start, fragment_of, data_of, DataInside}
+use Rattle.wire.specs.Checks.{first_of}
+use Rattle.wire.specs.Numbered.{numbered}
+use Rattle.cursor_fragment.specs.Fragment.{is_start, starts, own_fields, fragment_of, data_of, DataInside}
 use Rattle.cursor_fragment.specs.Start.{same_start}
 use Rattle.cursor_fragment.specs.declared.Fragment.{Fragment}
 use Rattle.cursor_fragment.proofs.Laws.Fragment.{data_inside, starts_is}
@@ -21,43 +21,42 @@ use Rattle.cursor_fragment.proofs.Laws.Start.{same_start_is}
 use Rattle.cursor_picture.specs.declared.Picture.{Picture}
 use Rattle.cursor_picture.proofs.Laws.Picture.{room_says}
 use Rattle.cursor_store.specs.Judging.{of_opened, start_differs, opens, judging}
-use Rattle.cursor_store.specs.Assembling.{store_status, opened_by, opened_for, cleared_for, image_after, marks_after, with_start, picture_after, assembled_as, assembled}
-use Rattle.cursor_store.specs.Storing.{pointer_after, stored}
+use Rattle.cursor_store.specs.Assembling.{store_status, opened_by, opened_for, cleared_for, image_after, marks_after, with_start, picture_after}
+use Rattle.cursor_store.specs.Storing.{pointer_after}
 use Rattle.cursor_store.specs.Receiver.{covers}
-use Rattle.cursor_store.specs.Calls.{State, numbered, is_accepted, answered, next, NumberByChecks, RefusalKeeps, PictureKept, OutsideKept, FormerStaysClosed}
+use Rattle.cursor_store.specs.Calls.{State, is_accepted, answered, kept, next, NumberByChecks, RefusalKeeps, PictureKept, OutsideKept, FormerStaysClosed}
 use Rattle.cursor_store.proofs.Laws.Judging.{judged_room, judged_start, judged_late}
 use Rattle.cursor_store.proofs.Laws.Assembling.{store_passed}
-use Rattle.cursor_store.proofs.Laws.Storing.{stored_refused, stored_accepted}
+use Rattle.cursor_store.proofs.Laws.Storing.{stored_as, stored_is, stored_accepted}
 
 -- what the answer says of the checks
 module _ (s : State) (packet : List ℕ) where
   abbrev status_of : Status
   status_of = store_status s.picture packet s.image s.marks
 
-  not_accepted : accepted status_of ≡ false → is_accepted (answered s packet).answer ≡ false
-  not_accepted e = rw (stored_refused s.pointer s.picture packet s.image s.marks e) e
-
-  is_accepted_lem : accepted status_of ≡ true → is_accepted (answered s packet).answer ≡ true
-  is_accepted_lem e = rw (stored_accepted s.pointer s.picture packet s.image s.marks e)
-
   same_verdict : accepted status_of ≡ is_accepted (answered s packet).answer
-  same_verdict = go (accepted status_of) refl
+  same_verdict = rw (stored_is s.pointer s.picture packet s.image s.marks) (go status_of)
     where
-      go : (b : Bool) → accepted status_of ≡ b → b ≡ is_accepted (answered s packet).answer
-      go true e = sym (is_accepted_lem e)
-      go false e = sym (not_accepted e)
+      go : (st : Status) → accepted st ≡ is_accepted (stored_as s.pointer s.picture packet s.image s.marks st).answer
+      go (Ok u) = refl
+      go (Err r) = refl
 
 pub number_by_checks : NumberByChecks
-unfolding stored assembled assembled_as
-number_by_checks s packet = go (accepted (status_of s packet)) refl
+number_by_checks s packet = rw (stored_is s.pointer s.picture packet s.image s.marks) (go (status_of s packet))
   where
-    go : (b : Bool) → accepted (status_of s packet) ≡ b → numbered (answered s packet).answer ≡ refused_as (status_of s packet) 0
-    go true e = simp e (accepted_as_lem (status_of s packet) e)
-    go false e = simp e
+    go : (st : Status) → numbered (stored_as s.pointer s.picture packet s.image s.marks st).answer ≡ record { number = number_of st; place = 0 }
+    go (Ok u) = refl
+    go (Err r) = refl
 
 pub refusal_keeps : RefusalKeeps
 unfolding RefusalKeeps next
-refusal_keeps s packet h = rw (stored_refused s.pointer s.picture packet s.image s.marks (same_verdict s packet ∙ h))
+refusal_keeps s packet h = rw (stored_is s.pointer s.picture packet s.image s.marks) (go (status_of s packet) (same_verdict s packet ∙ h))
+  where
+    go : (st : Status) → accepted st ≡ false
+        → kept (stored_as s.pointer s.picture packet s.image s.marks st).answer s.pointer s.picture
+        (stored_as s.pointer s.picture packet s.image s.marks st).image (stored_as s.pointer s.picture packet s.image s.marks st).marks ≡ s
+    go (Ok u) k = absurd (false≢true (sym k))
+    go (Err r) k = refl
 
 -- an accepted call
 module _ (s : State) (packet : List ℕ) (h : is_accepted (answered s packet).answer ≡ true) where
@@ -96,8 +95,8 @@ module _ (s : State) (packet : List ℕ) (h : is_accepted (answered s packet).an
       go false e = simp (starts_is packet ∙ e)
       go true e =
           let differs = judged_start q (fragment_of packet) (data_of packet) s.image s.marks (store_passed q packet s.image s.marks status_accepted).2 o in
-          let same : same_start q.start (fragment_of packet).start ≡ true = not-false _ (simp (starts_is packet ∙ e, seen e) at differs) in
-          simp (starts_is packet ∙ e) (rw (← same_start_is q.start (fragment_of packet).start same, ← seen e))
+          let same : same_start q.start (own_fields (fragment_of packet)) ≡ true = not-false _ (simp (starts_is packet ∙ e, seen e) at differs) in
+          simp (starts_is packet ∙ e) (rw (← same_start_is q.start (own_fields (fragment_of packet)) same, ← seen e))
 
   module _ (i : ℕ) (u : covers packet i ≡ false) where
     abbrev f : Fragment
@@ -155,7 +154,7 @@ outside_kept s packet i u = go (is_accepted (answered s packet).answer) refl
     go false h = rw (refusal_keeps s packet h) (refl, λ l. refl, λ o. refl)
 
 -- the record of a picture just opened
-opened_as : (b : Bool) (f : Fragment) → f.starts ≡ b
+opened_as : (b : Bool) (f : Fragment) → starts f ≡ b
     → ((with_start f (opened_by f)).opened ≡ true) × ((with_start f (opened_by f)).id ≡ f.id) × ((with_start f (opened_by f)).opening ≡ f.sequence)
 unfolding with_start opened_by
 opened_as true f e = (simp e, simp e, simp e)
@@ -168,11 +167,11 @@ former_stays_closed s opener late h o d n =
     let g = fragment_of late in
     let s' = next s opener in
     let e : s'.picture ≡ with_start f (opened_by f) = ap (λ (x : State). x.picture) (next_is s opener h) ∙ simp o in
-    let r = opened_as f.starts f refl in
+    let r = opened_as (starts f) f refl in
     let not-id : of_opened s'.picture g ≡ false = rw (e, r.0, r.1, ne_eqb f.id g.id d) in
     let not_newer : opens s'.picture g ≡ false = rw (e, r.0, r.2) n in
     let late_is = judged_late s'.picture g (data_of late) s'.image s'.marks not-id not_newer in
-    let refused = not_accepted s' late (store_stopped s'.picture late s'.image s'.marks late_is) in
+    let refused = sym (same_verdict s' late) ∙ store_stopped s'.picture late s'.image s'.marks late_is in
     (refused, refusal_keeps s' late refused)
   where
     store_stopped : (q : Picture) (packet image marks : List ℕ) → accepted (first_of (judging q (fragment_of packet) (data_of packet) image marks)) ≡ false

@@ -11,27 +11,27 @@ use lib.ListN.{length, get_or, drop, replicate, length-replicate, get_or-replica
 use lib.Seq.{ext_get_or, get_or-take, get_or-drop}
 use borrow.Author.Tests.{leb-true, ltb-true, eq-eqb}
 use Rattle.wire.specs.Splice.{part, splice}
-use Rattle.wire.specs.declared.status.Status.TheVariants as status
+use Rattle.std.specs.Prelude.{Result, Ok}
+use Rattle.wire.specs.declared.status.Refused.{Refused}
+use Rattle.wire.specs.Status.{accept, accepted}
 use Rattle.wire.proofs.Laws.Splice.{length_splice, get_d_splice}
 use Rattle.scan.specs.Conflict.{conflict_at, conflict_in}
 use Rattle.scan.specs.Empty.{filled_at}
 use Rattle.scan.specs.Order.{lesser}
 use Rattle.scan.proofs.Laws.Below.{below_none}
 use Rattle.scan.proofs.Laws.Order.{lesser_le}
-use Rattle.wire.specs.Checks.{first_of, accepted}
-use Rattle.cursor_fragment.specs.Fragment.{is_start, fragment_of, data_of, DataInside}
+use Rattle.wire.specs.Checks.{first_of}
+use Rattle.cursor_fragment.specs.Fragment.{is_start, starts, own_fields, fragment_of, data_of, DataInside}
 use Rattle.cursor_fragment.specs.declared.Fragment.{Fragment}
 use Rattle.cursor_fragment.specs.declared.start.Start.{Start}
 use Rattle.cursor_fragment.specs.Start.{same_start}
 use Rattle.wire.proofs.Laws.Bool.{both}
 use Rattle.cursor_fragment.proofs.Laws.Fragment.{data_inside, starts_is}
 use Rattle.cursor_picture.specs.declared.Picture.{Picture}
-use Rattle.cursor_picture.specs.declared.completeness.CompleteAnswer.TheVariants.{Yes, No}
 use Rattle.cursor_picture.specs.Picture.{has_room, held}
 use Rattle.cursor_picture.specs.Completeness.{all_filled, completeness}
 use Rattle.cursor_picture.proofs.Laws.Completeness.{all_filled_lem, filled_all}
 use Rattle.cursor_picture.proofs.Laws.Picture.{room_says, held_says}
-use Rattle.cursor_store.specs.declared.storing.StoreAnswer.TheVariants.{Accepted}
 use Rattle.cursor_store.specs.Judging.{of_opened, start_differs, bytes_differ, opened_rules, judging}
 use Rattle.cursor_store.specs.Assembling.{opened_for, cleared_for, image_after, marks_after, with_start, picture_after, outcome}
 use Rattle.cursor_store.specs.Storing.{pointer_after}
@@ -63,7 +63,7 @@ abbrev seen_as : Start → Picture → Picture
 seen_as a q = record { opened = q.opened; id = q.id; total = q.total; opening = q.opening; seen = true; start = a }
 
 module _ (w : Whole) (s : State) (a : Start) (o : OpenedAs by_value w s) (u : s.picture.seen ≡ true → s.picture.start ≡ a)
-    (packet : List ℕ) (c : CutFrom w packet) (v : is_start packet ≡ true → (fragment_of packet).start ≡ a) where
+    (packet : List ℕ) (c : CutFrom w packet) (v : is_start packet ≡ true → own_fields (fragment_of packet) ≡ a) where
   abbrev f : Fragment
   f = fragment_of packet
 
@@ -86,10 +86,10 @@ module _ (w : Whole) (s : State) (a : Start) (o : OpenedAs by_value w s) (u : s.
 
   starts_agree : start_differs s.picture f ≡ false
   unfolding start_differs
-  starts_agree = go f.starts refl s.picture.seen refl
+  starts_agree = go (starts f) refl s.picture.seen refl
     where
-      go : (x : Bool) → f.starts ≡ x → (y : Bool) → s.picture.seen ≡ y → start_differs s.picture f ≡ false
-      go true e true h = simp (e, h, same_itself s.picture.start f.start (u h ∙ sym (v (sym (starts_is packet) ∙ e))))
+      go : (x : Bool) → starts f ≡ x → (y : Bool) → s.picture.seen ≡ y → start_differs s.picture f ≡ false
+      go true e true h = simp (e, h, same_itself s.picture.start (own_fields f) (u h ∙ sym (v (sym (starts_is packet) ∙ e))))
       go true e false h = simp (e, h)
       go false e y h = simp e
 
@@ -129,7 +129,7 @@ module _ (w : Whole) (s : State) (a : Start) (o : OpenedAs by_value w s) (u : s.
               simp (eq-eqb (get_or s.image (f.offset + k) 0) (get_or ds k 0) (o.agreeing (f.offset + k) i e ∙ sym (cut_byte k l)))
           go false e = refl
 
-  judged : first_of (judging s.picture f ds s.image s.marks) ≡ status.Accepted
+  judged : first_of (judging s.picture f ds s.image s.marks) ≡ accept
   unfolding first_of judging opened_rules
   judged =
       let r : has_room f.total (length s.image) (length s.marks) ≡ true = rw c.same_total room in
@@ -145,7 +145,7 @@ module _ (w : Whole) (s : State) (a : Start) (o : OpenedAs by_value w s) (u : s.
   }
 
   answer_is
-      : answered s packet ≡ outcome (Accepted (record { pointer = then_is.pointer; picture = then_is.picture })) then_is.image then_is.marks
+      : answered s packet ≡ outcome (Ok (record { pointer = then_is.pointer; picture = then_is.picture })) then_is.image then_is.marks
   unfolding opened_for cleared_for image_after marks_after picture_after
   answer_is =
       stored_accepted s.pointer s.picture packet s.image s.marks
@@ -260,7 +260,7 @@ record Ends (w : Whole) (a : Start) (s : State) (l : List Call) : Type 0 where
   grown : Grown w a s (covered l) (started l) (run by_value s l)
 
 one_grown : (w : Whole) (s : State) (a : Start) (o : OpenedAs by_value w s) (u : s.picture.seen ≡ true → s.picture.start ≡ a) (packet : List ℕ)
-    (c : CutFrom w packet) (v : is_start packet ≡ true → (fragment_of packet).start ≡ a)
+    (c : CutFrom w packet) (v : is_start packet ≡ true → own_fields (fragment_of packet) ≡ a)
     → Grown w a s (covers packet) (is_start packet) (next s packet)
 one_grown w s a o u packet c v = rw (next_is w s a o u packet c v)
     (record {
@@ -344,7 +344,7 @@ among_starts packet (fragment packet' ∷ l) m h =
     (λ n. or_right (is_start packet') (started l) (among_starts packet l n h)) m
 among_starts packet (other packet' ∷ l) m h = among_starts packet l m h
 
-among_start : (packet : List ℕ) (l : List Call) (a : Start) → Among packet l → StartsHave a l → is_start packet ≡ true → (fragment_of packet).start ≡ a
+among_start : (packet : List ℕ) (l : List Call) (a : Start) → Among packet l → StartsHave a l → is_start packet ≡ true → own_fields (fragment_of packet) ≡ a
 among_start packet [] a m v h = absurd m
 among_start packet (fragment packet' ∷ l) a m v h =
     ⊎_elim (λ (e : SameFragment packet packet'). e.same_start ∙ v.0 (sym e.same_type ∙ h)) (λ n. among_start packet l a n v.1 h) m
@@ -414,17 +414,17 @@ module _ (w : Whole) (s : State) (l l' : List Call) (g : Given by_value w s l) (
 
 -- The completeness question.
 
-yes_is : (x y : Bool) → cond (x && y) Yes No ≡ Yes → (x ≡ true) × (y ≡ true)
+yes_is : (x y : Bool) → ◌≡◌ {A = Result Bool Refused} (Ok (x && y)) (Ok true) → (x ≡ true) × (y ≡ true)
 yes_is true true h = (refl, refl)
 yes_is true false h = absurd (let z : ◌≡◌ {A = ℕ} 0 1 = cc in let no : ⊥ = omega arith in no)
 yes_is false y h = absurd (let z : ◌≡◌ {A = ℕ} 0 1 = cc in let no : ⊥ = omega arith in no)
 
 module _ (w : Whole) (s : State) (o : OpenedAs by_value w s) where
-  completeness_is : completeness s.picture (length s.image) s.marks ≡ cond (s.picture.seen && all_filled s.marks (total_of w)) Yes No
+  completeness_is : completeness s.picture (length s.image) s.marks ≡ Ok (s.picture.seen && all_filled s.marks (total_of w))
   unfolding completeness
   completeness_is = simp (o.clear, o.opened, o.same_total)
 
-  complete_yes : completeness s.picture (length s.image) s.marks ≡ Yes
+  complete_yes : completeness s.picture (length s.image) s.marks ≡ Ok true
       ↔ ((s.picture.seen ≡ true) × ((i : ℕ) → i < total_of w → filled_at s.marks i ≡ true))
   complete_yes =
       let r = room_says (total_of w) (length s.image) (length s.marks) (rw (← o.same_total) (held_says s.picture (length s.image) (length s.marks) o.clear o.opened)) in (

@@ -18,8 +18,8 @@ pub returns : goal.returns
 unfolding picture_bytes
 returns c = let a = c.args in
     let xs = a.«record».now in
-    let opened = next_as (nothing 0 xs) 1 _ (flag_byte a.picture.opened) c.put_u8.ensures.bytes (omega arith) in
-    let id = next opened 2 _ c.put_u16.ensures.bytes (omega arith) in
-    let total = next id 4 _ c.put_u32.ensures.bytes (omega arith) in
-    let opening = next total 2 _ c.put_u16-2.ensures.bytes (omega arith) in
+    let opened = next_as (nothing 0 xs) 1 _ (flag_byte a.picture.opened) c.write.ensures.bytes (omega arith) in
+    let id = next opened 2 _ c.write-2.ensures.bytes (omega arith) in
+    let total = next id 4 _ c.write-3.ensures.bytes (omega arith) in
+    let opening = next total 2 _ c.write-4.ensures.bytes (omega arith) in
     whole (next_part opening (start_bytes a.picture.seen a.picture.start) 6 (start_length a.picture.seen a.picture.start) c.write_start.ensures (omega arith)) (omega arith)

@@ -9,7 +9,7 @@ pub returns : goal.returns
 unfolding start_bytes
 returns c = let a = c.args in
     let xs = a.«record».now in
-    let seen = next_as (nothing 9 xs) 1 _ (flag_byte a.seen) c.put_u8.ensures.bytes (omega arith) in
-    let image = next seen 1 _ c.put_u8-2.ensures.bytes (omega arith) in
-    let across = next image 2 _ c.put_u16.ensures.bytes (omega arith) in
-    (next across 2 _ c.put_u16-2.ensures.bytes (omega arith)).all
+    let seen = next_as (nothing 9 xs) 1 _ (flag_byte a.seen) c.write.ensures.bytes (omega arith) in
+    let image = next seen 1 _ c.write-2.ensures.bytes (omega arith) in
+    let across = next image 2 _ c.write-3.ensures.bytes (omega arith) in
+    (next across 2 _ c.write-4.ensures.bytes (omega arith)).all

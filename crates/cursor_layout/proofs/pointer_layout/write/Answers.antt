@@ -24,8 +24,8 @@ returns c = let a = c.args in
     let xs = a.«record».now in
     let fits_x : SFits w16 a.pointer.x = search rules in
     let fits_y : SFits w16 a.pointer.y = search rules in
-    let known = next_as (nothing 0 xs) 1 _ (flag_byte a.pointer.known) c.put_u8.ensures.bytes (omega arith) in
-    let sequence = next known 2 _ c.put_u16.ensures.bytes (omega arith) in
-    let across = next_as sequence 2 _ (c.unsigned16.ensures ∙ ap (unsigned 2) (to_z-of_z w16 a.pointer.x fits_x)) c.put_u16-2.ensures.bytes (omega arith) in
-    let down = next_as across 2 _ (c.unsigned16-2.ensures ∙ ap (unsigned 2) (to_z-of_z w16 a.pointer.y fits_y)) c.put_u16-3.ensures.bytes (omega arith) in
+    let known = next_as (nothing 0 xs) 1 _ (flag_byte a.pointer.known) c.write.ensures.bytes (omega arith) in
+    let sequence = next known 2 _ c.write-2.ensures.bytes (omega arith) in
+    let across = next_as sequence 2 _ (c.unsigned16.ensures ∙ ap (unsigned 2) (to_z-of_z w16 a.pointer.x fits_x)) c.write-3.ensures.bytes (omega arith) in
+    let down = next_as across 2 _ (c.unsigned16-2.ensures ∙ ap (unsigned 2) (to_z-of_z w16 a.pointer.y fits_y)) c.write-4.ensures.bytes (omega arith) in
     whole down (omega arith)
