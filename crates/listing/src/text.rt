@@ -108,7 +108,7 @@ pub(crate) fn put_line(out: &mut [u8], at: usize, place: u64, line: Line) -> usi
 {
     match line {
         Line::Message { command, size } => put_message(out, at, place, command, size),
-        Line::Refused { refusal } => put_refused(out, at, place, refusal.number()),
+        Line::Refused { refusal } => put_refused(out, at, place, refusal.into()),
         Line::End => put_end(out, at, place),
     }
 }

@@ -60,7 +60,7 @@ fn show(rt: &HostRuntime, text: &str) -> io::Result<()> {
     match cursor_limits::read(text.as_bytes()) {
         Ok(Value::NotSupported) => println!(rt; "not supported"),
         Ok(Value::Supported(limits)) => println!(rt; "{limits}"),
-        Err(refused) => println!(rt; "refused {}", refused.refusal.number()),
+        Err(refused) => println!(rt; "refused {}", u8::from(refused.refusal)),
     }
 }
 

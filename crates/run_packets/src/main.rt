@@ -13,7 +13,7 @@ use std::io;
 use wire::status::Refused;
 
 fn print_refused(rt: &HostRuntime, refused: Refused) -> io::Result<()> {
-    print!(rt; " refused {} {}", refused.refusal.number(), refused.place)
+    print!(rt; " refused {} {}", u8::from(refused.refusal), refused.place)
 }
 
 // A fragment's fields; the last three are a start's own, 0 where it is none.

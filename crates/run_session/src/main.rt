@@ -76,7 +76,7 @@ fn line(rt: &HostRuntime, case: Case) -> io::Result<()> {
     let after = in_place::lend_and_step(case.session(), event, carried.source(), brought);
     let (status, check) = match after.answer {
         Ok(accepted) => (0, accepted.check),
-        Err(refused) => (refused.refusal.number(), false),
+        Err(refused) => (u8::from(refused.refusal), false),
     };
     print!(rt; " {status} {}", check as u8)?;
     let session = after.session;
