@@ -39,7 +39,7 @@ fn judge_other(picture: Picture, fragment: Fragment) -> Status
     Err(Refusal::NotNewer)
 }
 
-// The first refusal, or Accepted: 10 where there is no room for the fragment's total; of another id than the opened one's, 11; of the opened
+// The first refusal, or accepted: 10 where there is no room for the fragment's total; of another id than the opened one's, 11; of the opened
 // id another total is 12, a conflict 13, and its sequence number is not looked at.
 #[tactic(auto, unfolding(crate::specs::Judging::judging, crate::specs::Judging::opened_rules, crate::specs::Judging::bytes_differ, wire::specs::Checks::first_of, cursor_picture::specs::Picture::has_room))]
 pub(crate) fn judge(
