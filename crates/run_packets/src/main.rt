@@ -25,7 +25,10 @@ fn print_fragment(rt: &HostRuntime, fragment: Fragment) -> io::Result<()> {
         offset,
         start,
     } = fragment;
-    print!(rt; " accepted {sequence} {total} {id} {offset} {}", start.is_some() as u8)?;
+    print!(rt;
+        " accepted {sequence} {total} {id} {offset} {}",
+        start.is_some() as u8
+    )?;
     let start = start.unwrap_or(Start::none());
     print!(rt; " {} {} {}", start.image_type, start.hot_x, start.hot_y)
 }
