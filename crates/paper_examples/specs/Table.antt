@@ -1,16 +1,17 @@
 -- 01, "Proved table of small examples": "These twelve are shown against the definitions by a single theorem over a list of them." An example says
 -- what a definition has to give, by numbers and Bools alone, so that each is tested by computing. Assumes nothing.
-use Rattle.std.specs.Prelude.{ℕ, ◌≡◌, refl, List, [], ◌∷◌, ◌++◌, Bool, true, false, not, ◌&&◌, eqb, ℤ, pos, negsuc, replicate, Option, Some, None}
+use Rattle.std.specs.Prelude.{ℕ, ◌≡◌, refl, List, [], ◌∷◌, ◌++◌, Bool, true, false, not, ◌&&◌, eqb, ℤ, pos, negsuc, replicate, Option, Some, None, Result, Ok, Err}
 use Rattle.wire.specs.Below.{all_below}
 use Rattle.wire.specs.Number.{number_in}
 use Rattle.wire.specs.Sequence.{distance, is_newer}
 use Rattle.wire.specs.Signed.{signed}
 use Rattle.wire.specs.Status.{number_of}
-use Rattle.message_reader.specs.declared.Answer.{Answer}
-use Rattle.message_reader.specs.declared.Answer.TheVariants as read
+use Rattle.wire.specs.Numbered.{numbered}
+use Rattle.wire.specs.declared.status.Refused.{Refused}
+use Rattle.message_rules.specs.declared.record.Message.{Message}
 use Rattle.message_rules.specs.Rules.{roles_of, role_of, lengths_of, length_in, length_ok, known_command}
 use Rattle.message_rules.specs.Record.{field_of, with_field, empty_of}
-use Rattle.message_reader.specs.Reading.{header_status, has_needed, is_complete, tlv_at, last_of, tlvs_from, read_message, numbered}
+use Rattle.message_reader.specs.Reading.{header_status, has_needed, is_complete, tlv_at, last_of, tlvs_from, read_message}
 use Rattle.message_rules.specs.Accessors.{port_of, no_source}
 use Rattle.session_table.specs.declared.record.State.{State}
 use Rattle.session_table.specs.declared.record.State.TheVariants as state
@@ -19,8 +20,7 @@ use Rattle.session_table.specs.Source.{carried, other_source}
 use Rattle.session_table.specs.Table.{is_event}
 use Rattle.session_step.specs.declared.step.Stepped.{Stepped}
 use Rattle.session_step.specs.Step.{options_from, source_after, accepted, step_of}
-use Rattle.cursor_packet.specs.declared.position.PositionAnswer.{PositionAnswer}
-use Rattle.cursor_packet.specs.declared.position.PositionAnswer.TheVariants as positioned
+use Rattle.cursor_packet.specs.declared.position.Position.{Position}
 use Rattle.wire.specs.Checks.{first_of}
 use Rattle.cursor_packet.specs.Rtp.{rtp_holds}
 use Rattle.cursor_packet.specs.Frame.{frame_checks}
@@ -92,9 +92,9 @@ examples =
     -- P12 Waiting, Stop Projection: Closed, accepted
     closes 2 ∷ []
 
-is_port : List ℕ → ℕ → Answer → Bool
-is_port s n (read.Accepted m) = eqb (port_of s m) n
-is_port s n (read.Refused st place) = false
+is_port : List ℕ → ℕ → Result Message Refused → Bool
+is_port s n (Ok m) = eqb (port_of s m) n
+is_port s n (Err r) = false
 
 same : Bool → Bool → Bool
 same true b = b
@@ -106,9 +106,9 @@ same_integer (pos a) (negsuc b) = false
 same_integer (negsuc a) (pos b) = false
 same_integer (negsuc a) (negsuc b) = eqb a b
 
-is_position : ℤ → ℤ → PositionAnswer → Bool
-is_position x y (positioned.Accepted p) = same_integer p.x x && same_integer p.y y
-is_position x y (positioned.Refused st place) = false
+is_position : ℤ → ℤ → Result Position Refused → Bool
+is_position x y (Ok p) = same_integer p.x x && same_integer p.y y
+is_position x y (Err r) = false
 
 is_number : ℕ → Option ℕ → Bool
 is_number n (Some v) = eqb v n
@@ -123,7 +123,7 @@ is_closed state.Projecting = false
 is_closed state.Closed = true
 
 closes_it : Stepped → Bool
-closes_it r = eqb (number_of r.answer.status) 0 && is_closed r.session.state
+closes_it r = eqb (numbered r.answer).number 0 && is_closed r.session.state
 
 -- whether the definitions give what the example says
 pub holds : Example → Bool
