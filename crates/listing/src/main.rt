@@ -237,6 +237,7 @@ fn write_verdict(rt: &HostRuntime, path: &str, verdict: Verdict) -> io::Result<(
 
 // Writes the verdict to the file that the second argument names.
 fn tell(rt: &HostRuntime, verdict: Verdict) {
+    // As in `main`.
     let mut bytes = [0u8; 4096];
     let got = rt.arg(2, &mut bytes);
     match argument::text(got, &bytes) {
@@ -260,6 +261,7 @@ fn main(rt: HostRuntime) {
         rt.eprintln("usage: listing FILE [VERDICT]").ok();
         return;
     }
+    // As bytes that are lent: std's `args` answers one error for all arguments, and not why this one can't be had (`argument::text`).
     let mut bytes = [0u8; 4096];
     let got = rt.arg(1, &mut bytes);
     match argument::text(got, &bytes) {

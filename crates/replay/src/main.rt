@@ -129,6 +129,7 @@ fn play_file(rt: &HostRuntime, path: &str) {
 }
 
 fn main(rt: HostRuntime) {
+    // As bytes that are lent: std's `args` answers one error for all arguments, and not why this one can't be had (`argument::text`).
     let mut bytes = [0; 4096];
     let got = rt.arg(1, &mut bytes);
     match argument::text(got, &bytes) {
