@@ -80,7 +80,8 @@ fn with_start(picture: Picture, fragment: Fragment) -> Picture
     }
 }
 
-// Judges a fragment, and stores it if it is accepted.
+// Judges a fragment, and stores it if it is accepted. Picture and marks stay two slices, as a host lends them: a struct of both would be taken
+// apart again at each call.
 #[tactic(auto, using(crate::proofs::Laws::Judging::judged_fits), unfolding(crate::specs::Assembling::fragment_assembled, crate::specs::Assembling::assembled_as, crate::specs::Assembling::image_after, crate::specs::Assembling::marks_after, crate::specs::Assembling::picture_after))]
 fn take(
     picture: Picture,
