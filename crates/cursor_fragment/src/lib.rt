@@ -56,6 +56,8 @@ fn is_taken(kind: u8) -> bool
     matches!(kind, Start::TYPE | Continuation::TYPE)
 }
 
+// The length of the header of a start or of a continuation. (A packet and whether it starts go together through these functions: a struct of
+// both would only name the pair.)
 #[tactic(auto, unfolding(crate::specs::Fragment::header_length))]
 fn header(starts: bool) -> usize
     ensures { result ≡ header_length starts }
