@@ -2,8 +2,8 @@
 ghost use Rattle.std.specs.Prelude.{◌≡◌, length, replicate};
 ghost use Rattle.scan.specs.Bytes.{copied};
 
-// Copies `from` over the first places of `to`, as far as both go. A function apart: put into each caller it is copied once for each TLV type,
-// and a written message takes 15 ns longer (docs/MEASURED.md).
+// Copies `from` over the first places of `to`, as far as both go. A function apart: put into its callers it is there once for each TLV type,
+// and a written message takes longer (docs/MEASURED.md).
 #[inline(never)]
 #[tactic(auto, unfolding(crate::specs::Bytes::copied))]
 pub fn copy(to: &mut [u8], from: &[u8])
