@@ -10,6 +10,7 @@ ghost use Rattle.message_writer.specs.Writing.{field_ok, writable, tlv_bytes, bo
 use message_rules::record::{Field, Message};
 use message_rules::role::Role;
 use message_rules::{record, rules};
+use scan::bytes;
 use wire::number;
 use wire::status::{Refusal, Refused};
 
@@ -78,7 +79,7 @@ fn put_tlv(bytes: &[u8], kind: u8, value: Field, out: &mut [u8], at: usize) -> u
     let end = start + len;
     number::write(out, at, kind);
     number::write(out, at + 1, len as u16);
-    out[start..end].copy_from_slice(&bytes[from..to]);
+    bytes::copy(&mut out[start..end], &bytes[from..to]);
     end
 }
 

@@ -14,6 +14,8 @@ use Rattle.message_rules.specs.declared.record.Field.{Field}
 use Rattle.message_writer.specs.Writing.{tlv_bytes}
 use Rattle.wire.proofs.Laws.Written.{none, next, next_part}
 use Rattle.message_writer.proofs.Laws.Writing.{one_byte}
+use Rattle.scan.proofs.Laws.Bytes.{copied_all}
+use Rattle.std.proofs.Common.{rules}
 use Rattle.message_writer.proofs.put_tlv.Goals as goal
 
 laid
@@ -33,8 +35,11 @@ laid s kind f at n xs ys zs vs small inside h p q v e =
 pub returns : goal.returns
 returns c = let a = c.args in
     let f = a.value in
-    let e : f.at + f.len - f.at ≡ f.len = omega arith in (
+    let e : f.at + f.len - f.at ≡ f.len = omega arith in
+    let d = take (f.at + f.len - f.at) (drop f.at a.bytes.now) in
+    let p = take (a.at + 3 + f.len - (a.at + 3)) (drop (a.at + 3) c.write-2.new.out) in
+    let l : length p ≡ length d = search rules in (
       refl,
       laid a.bytes.now a.kind f a.at (a.at + 3 + f.len - (a.at + 3)) a.out.now _ _ _ (omega arith) (omega arith)
-          (omega arith) c.write.ensures.bytes c.write-2.ensures.bytes (rw e at c.copy_from_slice.ensures.after) (omega arith),
+          (omega arith) c.write.ensures.bytes c.write-2.ensures.bytes (rw e at (c.copy.ensures ∙ copied_all d p l)) (omega arith),
     )
