@@ -55,7 +55,8 @@ fn put_long(out: &mut [u8], at: usize, n: u64) -> usize
     put_two(out, at, low % 100)
 }
 
-// Puts n in decimal. Most numbers of a line have one digit or two.
+// Puts n in decimal. Most numbers of a line have one digit or two. (No `write!`: its text goes through a formatter, byte by byte, and these
+// are the lines of 1 GiB; `text_of` says each byte.)
 fn put_number(out: &mut [u8], at: usize, n: u64) -> usize
     requires { at + 20 ≤ length out.old }
     ensures put { Put out.old at (decimal n) result out.new }
