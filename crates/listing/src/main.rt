@@ -159,8 +159,10 @@ impl<'a, R: Read> Listing<'a, R> {
     fn read_more(&mut self)
         requires room { self.old.state.to < self.old.state.from + length self.old.buf }
         requires written { self.old.state.used ≡ 0 }
-        ensures window { (self.new.state.from ≤ self.new.state.to) × (self.new.state.to ≤ length self.new.buf) × (self.new.state.used ≡ self.old.state.used) × (self.new.state.place ≡ self.old.state.place) }
-        ensures kept { take (self.old.state.to - self.old.state.from) (drop self.new.state.from self.new.buf) ≡ take (self.old.state.to - self.old.state.from) (drop self.old.state.from self.old.buf) }
+        ensures window { (self.new.state.from ≤ self.new.state.to) × (self.new.state.to ≤ length self.new.buf)
+            × (self.new.state.used ≡ self.old.state.used) × (self.new.state.place ≡ self.old.state.place) }
+        ensures kept { take (self.old.state.to - self.old.state.from) (drop self.new.state.from self.new.buf)
+            ≡ take (self.old.state.to - self.old.state.from) (drop self.old.state.from self.old.buf) }
         ensures lines { (self.new.out ≡ self.old.out) × (length self.new.buf ≡ length self.old.buf) }
     {
         let kept = buffer::move_to_front(&mut self.buf, self.state.from, self.state.to);
