@@ -13,10 +13,6 @@ decimal_to (suc k) n = cond (nat_lt n 10) ((48 + n) ∷ []) (decimal_to k (n / 1
 unfoldable pub decimal : ℕ → List ℕ
 decimal n = decimal_to 20 n
 
--- the two digits of a number below 100
-abbrev pub two_digits : ℕ → List ℕ
-two_digits n = (48 + n / 10) ∷ (48 + n % 10) ∷ []
-
 abbrev pub newline : List ℕ
 newline = 10 ∷ []
 

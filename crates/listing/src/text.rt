@@ -1,6 +1,6 @@
 // A line as text (01, "Session listing"), put into bytes that are written later.
 ghost use Rattle.std.specs.Prelude.{◌+◌, ◌<◌, ◌≤◌, length};
-ghost use Rattle.listing.specs.Text.{Put, two_digits, decimal, message_text, refused_text, end_text, text_of};
+ghost use Rattle.listing.specs.Text.{Put, decimal, message_text, refused_text, end_text, text_of};
 
 use message_recording::line::Line;
 
@@ -14,59 +14,14 @@ fn put(out: &mut [u8], at: usize, text: &[u8]) -> usize
     end
 }
 
-// Puts the two digits of a number below 100.
-fn put_two(out: &mut [u8], at: usize, n: u64) -> usize
-    requires { (n < 100) × (at + 2 ≤ length out.old) }
-    ensures { Put out.old at (two_digits n) result out.new }
-{
-    out[at] = 48 + (n / 10) as u8;
-    out[at + 1] = 48 + (n % 10) as u8;
-    at + 2
-}
-
-// Numbers are put digit by digit, as short ones are the most: with the library's digits, by `itoa`, the listing of a recording of 256 MiB takes
-// 1.05 of the time (0.283 s beside 0.269 s of the processor, the best of 20 rounds).
-
-// Puts a number below 100, which has one digit or two.
-fn put_short(out: &mut [u8], at: usize, n: u64) -> usize
-    requires { (n < 100) × (at + length (decimal n) ≤ length out.old) }
-    ensures { Put out.old at (decimal n) result out.new }
-{
-    if n < 10 {
-        out[at] = 48 + n as u8;
-        return at + 1;
-    }
-    put_two(out, at, n)
-}
-
-// Puts a number of any length: its last four digits after those before them.
-fn put_long(out: &mut [u8], at: usize, n: u64) -> usize
-    requires { at + length (decimal n) ≤ length out.old }
-    ensures { Put out.old at (decimal n) result out.new }
-{
-    if n < 100 {
-        return put_short(out, at, n);
-    }
-    if n < 10000 {
-        let at = put_short(out, at, n / 100);
-        return put_two(out, at, n % 100);
-    }
-    let at = put_long(out, at, n / 10000);
-    let low = n % 10000;
-    let at = put_two(out, at, low / 100);
-    put_two(out, at, low % 100)
-}
-
-// Puts n in decimal. Most numbers of a line have one digit or two. (With std's `write!` into the bytes the listing took three times as long.)
+// Puts n in decimal, at most 20 digits.
 fn put_number(out: &mut [u8], at: usize, n: u64) -> usize
     requires { at + 20 ≤ length out.old }
     ensures put { Put out.old at (decimal n) result out.new }
     ensures upper_bound { result ≤ at + 20 }
 {
-    if n < 100 {
-        return put_short(out, at, n);
-    }
-    put_long(out, at, n)
+    let mut buffer = itoa::Buffer::new();
+    put(out, at, buffer.format(n).as_bytes())
 }
 
 fn put_message(out: &mut [u8], at: usize, place: u64, command: u8, size: usize) -> usize
