@@ -53,7 +53,7 @@ pub(crate) fn read(packet: &[u8], starts: bool) -> Option<Start>
     })
 }
 
-// Whether the own fields of two starts are the same. PROMISES names this call; code compares by `==`.
+// Whether the own fields of two starts are the same.
 #[tactic(auto, unfolding(crate::specs::Start::same_start))]
 pub fn same(a: Start, b: Start) -> bool
     ensures { result ≡ same_start a b }

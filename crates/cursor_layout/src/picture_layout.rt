@@ -65,11 +65,11 @@ pub fn write(record: &mut [u8], picture: Picture)
 }
 
 // Writes the picture where it is another than the one before; else each byte of the record stays, also of a flag that is neither 0 nor 1.
-#[tactic(auto, unfolding(crate::specs::PictureLayout::picture_left, cursor_picture::specs::Picture::same_picture, cursor_fragment::specs::Start::same_start))]
+#[tactic(auto, unfolding(crate::specs::PictureLayout::picture_left))]
 pub fn change(record: &mut [u8], before: Picture, after: Picture)
     ensures { «record».new ≡ picture_left before after «record».old }
 {
-    if before != after {
+    if !cursor_picture::same(before, after) {
         write(record, after);
     }
 }

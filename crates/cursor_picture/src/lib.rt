@@ -45,7 +45,7 @@ impl Picture {
     }
 }
 
-// Whether two records are the same in every field. PROMISES names this call; code compares by `==`.
+// Whether two records are the same in every field.
 #[tactic(auto, unfolding(crate::specs::Picture::same_picture, cursor_fragment::specs::Start::same_start))]
 pub fn same(a: Picture, b: Picture) -> bool
     ensures { result ≡ same_picture a b }

@@ -4,7 +4,7 @@ ghost use Rattle.std.specs.Prelude.{◌≡◌, ◌+◌, ◌≤◌, length};
 ghost use Rattle.wire.specs.Checks.{first_of};
 ghost use Rattle.cursor_store.specs.Judging.{of_opened, start_differs, other_rules, judging};
 
-use cursor_fragment::Fragment;
+use cursor_fragment::{Fragment, start};
 use cursor_picture::Picture;
 use scan::conflict;
 use wire::sequence;
@@ -19,13 +19,13 @@ pub(crate) fn of_opened(picture: Picture, fragment: Fragment) -> bool
 }
 
 // Whether the fragment is a second start that differs in its own fields.
-#[tactic(auto, unfolding(crate::specs::Judging::start_differs, cursor_fragment::specs::Start::same_start))]
+#[tactic(auto, unfolding(crate::specs::Judging::start_differs))]
 fn start_differs(picture: Picture, fragment: Fragment) -> bool
     ensures { result ≡ start_differs picture fragment }
 {
     fragment
         .start
-        .is_some_and(|start| picture.seen && picture.start != start)
+        .is_some_and(|new| picture.seen && !start::same(picture.start, new))
 }
 
 // A fragment of another id, or where no picture is opened: it opens a picture if it is newer, else it is 11.
