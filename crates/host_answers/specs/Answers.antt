@@ -4,7 +4,7 @@ use Rattle.wire.specs.declared.status.Refusal.{Refusal}
 use Rattle.wire.specs.declared.status.Refusal.TheVariants as refusal
 use Rattle.wire.specs.declared.status.Refused.{Refused}
 use Rattle.wire.specs.Status.{refusal_number, refused_at}
-use Rattle.wire.specs.Numbered.{Numbered, accepted_as, refused_as}
+use Rattle.wire.specs.Numbered.{Numbered, accepted_as, refused_as, numbered}
 use Rattle.host_answers.specs.declared.Answer.{Answer}
 use Rattle.host_answers.specs.declared.Number.{Number}
 use Rattle.host_answers.specs.declared.Step.{Step}
@@ -25,10 +25,9 @@ refused r place = answer_as (refused_as (refused_at r place))
 abbrev pub short : Answer
 short = refused refusal.NoRoom 0
 
--- of a reader
+-- of a reader: as the theorems on refusals number it
 abbrev pub answer_of : {A : Type 0} → Result A Refused → Answer
-answer_of (Ok x) = accepted
-answer_of (Err r) = refused (r.refusal) (r.place)
+answer_of a = answer_as (numbered a)
 
 -- of a writer: the paper's number of its answer, and how many bytes it wrote, none where it refused
 abbrev pub not_written : Refusal → Written

@@ -1,11 +1,14 @@
 -- Small examples of this crate's definitions, those of 01, "Proved table of small examples", among them. Each is computed.
-use Rattle.std.specs.Prelude.{◌≡◌, ℕ, zero, suc, ◌+◌, ◌%◌, ◌^◌, ◌<◌, ◌≤◌, true, false, not, ◌&&◌, List, [], ◌∷◌, length, take, drop, pos, negsuc, ◌≢◌, refl}
+use Rattle.std.specs.Prelude.{◌≡◌, ℕ, Ok, Err, zero, suc, ◌+◌, ◌%◌, ◌^◌, ◌<◌, ◌≤◌, true, false, not, ◌&&◌, List, [], ◌∷◌, length, take, drop, pos, negsuc, ◌≢◌, refl}
 use Rattle.std.proofs.Common.{arith}
 use Rattle.wire.specs.Splice.{splice}
 use Rattle.wire.specs.LittleEndian as little
 use Rattle.wire.specs.Number.{number_in, bytes_in, written_in, number, written, Bytes}
 use Rattle.wire.specs.Signed.{signed, unsigned}
 use Rattle.wire.specs.Sequence.{distance, is_newer}
+use Rattle.wire.specs.declared.status.Refusal.TheVariants as refusal
+use Rattle.wire.specs.Status.{refused_at}
+use Rattle.wire.specs.Numbered.{numbered}
 
 -- P7: last 65,535, new 0: newer
 pub p7 : is_newer true 65535 0 ≡ true
@@ -21,6 +24,15 @@ p8 = refl
 pub no_last : (is_newer false 0 0 && is_newer false 5 32773) ≡ true
 unfolding is_newer
 no_last = refl
+
+-- an answer that accepts has the number 0; a refusal has its own, and its place
+pub accepted_number : numbered {A = ℕ} (Ok 7) ≡ record { number = 0; place = 0 }
+accepted_number = refl
+
+pub refusal_numbers
+    : (numbered {A = ℕ} (Err (refused_at refusal.ImageNotHeld 0)) ≡ record { number = 17; place = 0 })
+    × (numbered {A = ℕ} (Err (refused_at refusal.TlvLength 12)) ≡ record { number = 6; place = 12 })
+refusal_numbers = (refl, refl)
 
 -- 1C 44 is 7,236, the most significant byte first; past the end a byte counts as 0
 pub port : number 2 (0x1c ∷ 0x44 ∷ []) 0 ≡ 7236
