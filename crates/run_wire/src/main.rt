@@ -31,11 +31,12 @@ fn write_lines(rt: &HostRuntime, at: usize) -> io::Result<()> {
     write_line(rt, at, 0xfffffff6_u32)
 }
 
-// How many of all sequence numbers are newer than `last`.
-fn count_newer(known: bool, last: u16) -> usize {
-    (0..=u16::MAX)
-        .filter(|new| sequence::newer(known, last, *new))
-        .count()
+// How many of all sequence numbers are newer than `last`. A sum over a range with no end of its own compiles to vector instructions; a filter of
+// `0..=u16::MAX` takes five times as many.
+fn count_newer(known: bool, last: u16) -> u32 {
+    (0..65536_u32).fold(0, |count: u32, new| {
+        count.wrapping_add(sequence::newer(known, last, new as u16) as u32)
+    })
 }
 
 // Whether `last` is known, `last`, how many numbers are newer, and whether those 0, 1, 32,767, 32,768 and 65,535 ahead are.
