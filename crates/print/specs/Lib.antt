@@ -1,1 +1,3 @@
 pub mod Argument
+pub mod Examples
+pub mod Hex

@@ -1,7 +1,8 @@
-// An argument of a program as text, and on standard error why something failed.
+// For programs: an argument as text, bytes in hexadecimal digits, and on standard error why something failed.
 #![tactic(auto)]
 
 pub mod argument;
+pub mod hex;
 
 use std::io::{Eprint, Error};
 

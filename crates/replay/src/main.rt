@@ -10,8 +10,8 @@ use cursor_host::Host;
 use cursor_layout::{picture_layout, pointer_layout};
 use print::argument;
 use std::env::Env;
+use std::fs;
 use std::io::Read;
-use std::{fs, io};
 use wire::signed;
 
 // The calls, which a frame names by their numbers.
@@ -92,38 +92,34 @@ fn make(call: Call, packet: &[u8], host: &mut Host<40>) -> u8 {
     }
 }
 
-// Plays one frame; answers no at the end of the file.
-fn turn<R: Read>(rt: &HostRuntime, stream: &mut R, host: &mut Host<40>) -> io::Result<bool> {
+// Plays one frame; answers no at the end of the file. A number that can't be written is passed over, as a later write may succeed.
+fn turn<R: Read>(rt: &HostRuntime, stream: &mut R, host: &mut Host<40>) -> bool {
     let mut frame = [0; 40];
     if stream.read_exact(&mut frame).is_err() {
-        return Ok(false);
+        return false;
     }
     let length = usize::from(frame[1]).min(38);
     let number = make(Call::from(frame[0]), &frame[2..2 + length], host);
-    print!(rt; "{number} ")?;
-    Ok(true)
+    print!(rt; "{number} ").ok();
+    true
 }
 
 // A proved loop has to end, and nothing says that a file does: the calls are counted up to a number that no run reaches.
-fn play<R: Read>(rt: &HostRuntime, stream: &mut R) -> io::Result<()> {
+fn play<R: Read>(rt: &HostRuntime, stream: &mut R) {
     let mut host = Host::<40>::new(46, 7);
     for calls in 1..=u64::MAX {
-        if !turn(rt, stream, &mut host)? {
+        if !turn(rt, stream, &mut host) {
             break;
         }
         if calls % 16 == 0 {
-            println!(rt; "{} ", sum_of(&host))?;
+            println!(rt; "{} ", sum_of(&host)).ok();
         }
     }
-    Ok(())
 }
 
-// Where its lines can't be written the program ends as ever, with status 0.
 fn play_file(rt: &HostRuntime, path: &str) {
     match fs::open(rt, path) {
-        Ok(mut stream) => {
-            play(rt, &mut stream).ok();
-        }
+        Ok(mut stream) => play(rt, &mut stream),
         Err(error) => print::failed(rt, path, error),
     }
 }

@@ -5,49 +5,44 @@
 
 use cursor_host::{Host, shown};
 use cursor_layout::{picture_layout, pointer_layout};
-use std::io;
 use wire::number;
 
-fn position<const N: usize>(rt: &HostRuntime, host: &mut Host<N>, packet: &[u8]) -> io::Result<()> {
+fn position<const N: usize>(rt: &HostRuntime, host: &mut Host<N>, packet: &[u8]) {
     let answer = host.position(packet);
     let pointer = shown::Pointer(pointer_layout::read(&host.pointer));
-    println!(rt; "position {} pointer{pointer}", answer.status)
+    println!(rt; "position {} pointer{pointer}", answer.status).ok();
 }
 
 // The bytes at five places.
-fn bytes_at(rt: &HostRuntime, s: &[u8], places: [usize; 5]) -> io::Result<()> {
+fn bytes_at(rt: &HostRuntime, s: &[u8], places: [usize; 5]) {
     for at in places {
-        print!(rt; " {}", number::read::<u8>(s, at))?;
+        print!(rt; " {}", number::read::<u8>(s, at)).ok();
     }
-    Ok(())
 }
 
 // The line ends with five bytes of the picture and of the marks.
-fn store<const N: usize>(
-    rt: &HostRuntime,
-    host: &mut Host<N>,
-    packet: &[u8],
-    places: [usize; 5],
-) -> io::Result<()> {
+fn store<const N: usize>(rt: &HostRuntime, host: &mut Host<N>, packet: &[u8], places: [usize; 5]) {
     let answer = host.store(packet);
     let pointer = shown::Pointer(pointer_layout::read(&host.pointer));
     let picture = shown::Picture(picture_layout::read(&host.picture));
     print!(rt;
         "store {} pointer{pointer} picture{picture} bytes",
         answer.status
-    )?;
-    bytes_at(rt, &host.image, places)?;
-    print!(rt; " marks")?;
-    bytes_at(rt, &host.marks, places)?;
-    println!(rt; "")
+    )
+    .ok();
+    bytes_at(rt, &host.image, places);
+    print!(rt; " marks").ok();
+    bytes_at(rt, &host.marks, places);
+    println!(rt; "").ok();
 }
 
-fn complete<const N: usize>(rt: &HostRuntime, host: &Host<N>) -> io::Result<()> {
+fn complete<const N: usize>(rt: &HostRuntime, host: &Host<N>) {
     match host.complete() {
         Ok(true) => println!(rt; "complete yes"),
         Ok(false) => println!(rt; "complete no"),
         Err(number) => println!(rt; "complete {number}"),
     }
+    .ok();
 }
 
 const P9: &[u8] = b"\x80\x00\x00\x05\x00\x00\x00\x00\x00\x00\x00\x00\x01\x00\x07\xff\xfe\x00\x0a";
@@ -78,53 +73,50 @@ const OFFSETS: [&[u8]; 3] = [
     b"\x80\x00\x00\x05\x00\x00\x00\x00\x00\x00\x00\x00\x03\x00\x0d\x00\x00\x00\x08\x00\x01\xff\xff\xff\xff",
 ];
 
-fn positions(rt: &HostRuntime) -> io::Result<()> {
+fn positions(rt: &HostRuntime) {
     let mut host = Host::<0>::new(0, 0);
     for packet in POSITIONS {
-        position(rt, &mut host, packet)?;
+        position(rt, &mut host, packet);
     }
-    Ok(())
 }
 
-fn offsets(rt: &HostRuntime) -> io::Result<()> {
+fn offsets(rt: &HostRuntime) {
     for packet in OFFSETS {
         let mut host = Host::<9>::new(46, 7);
-        store(rt, &mut host, packet, [0, 3, 4, 7, 8])?;
+        store(rt, &mut host, packet, [0, 3, 4, 7, 8]);
     }
-    Ok(())
 }
 
 // 003 section 4: 512 bytes of image, a start with the first 256 and a continuation with the others. Given are what stands before the data.
-fn shape(rt: &HostRuntime, start: &[u8; 30], continuation: &[u8; 25]) -> io::Result<()> {
+fn shape(rt: &HostRuntime, start: &[u8; 30], continuation: &[u8; 25]) {
     let mut first = [65; 286];
     first[..30].copy_from_slice(start);
     let mut second = [66; 281];
     second[..25].copy_from_slice(continuation);
     let mut host = Host::<513>::new(46, 7);
     for packet in [first.as_slice(), second.as_slice()] {
-        store(rt, &mut host, packet, [0, 255, 256, 511, 512])?;
-        complete(rt, &host)?;
+        store(rt, &mut host, packet, [0, 255, 256, 511, 512]);
+        complete(rt, &host);
     }
-    Ok(())
 }
 
 // With sequence numbers 0 and 1: timestamp and SSRC 0, and then filled, which changes nothing (02 §2).
-fn shapes(rt: &HostRuntime) -> io::Result<()> {
+fn shapes(rt: &HostRuntime) {
     shape(
         rt,
         b"\x80\x00\x00\x00\x00\x00\x00\x00\x00\x00\x00\x00\x02\x01\x12\x00\x00\x02\x00\x12\x34\x00\x0c\x00\x0a\x03\x00\x12\x00\x0f",
         b"\x80\x00\x00\x01\x00\x00\x00\x00\x00\x00\x00\x00\x03\x01\x0d\x00\x00\x02\x00\x12\x34\x00\x00\x01\x00",
-    )?;
+    );
     shape(
         rt,
         b"\x80\x00\x00\x00\x11\x22\x33\x44\xaa\xbb\xcc\xdd\x02\x01\x12\x00\x00\x02\x00\x12\x34\x00\x0c\x00\x0a\x03\x00\x12\x00\x0f",
         b"\x80\x00\x00\x01\x11\x22\x33\x44\xaa\xbb\xcc\xdd\x03\x01\x0d\x00\x00\x02\x00\x12\x34\x00\x00\x01\x00",
-    )
+    );
 }
 
 // A picture of four bytes and one place more, of which each line shows all.
-fn small(rt: &HostRuntime, host: &mut Host<5>, packet: &[u8]) -> io::Result<()> {
-    store(rt, host, packet, [0, 1, 2, 3, 4])
+fn small(rt: &HostRuntime, host: &mut Host<5>, packet: &[u8]) {
+    store(rt, host, packet, [0, 1, 2, 3, 4]);
 }
 
 // The two bytes in the middle.
@@ -140,16 +132,16 @@ const FIRST: &[u8] =
     b"\x80\x00\x00\x1e\x00\x00\x00\x00\x00\x00\x00\x00\x02\x00\x14\x00\x00\x00\x04\x00\x09\xff\xfe\x00\x0a\x03\x00\x01\x00\x02\x41\x42";
 
 // A picture of four bytes under id 9, opened by a continuation: in any order, repeated, with an older start, and refusals between.
-fn in_order(rt: &HostRuntime, host: &mut Host<5>) -> io::Result<()> {
-    complete(rt, host)?;
-    small(rt, host, MIDDLE)?;
-    complete(rt, host)?;
+fn in_order(rt: &HostRuntime, host: &mut Host<5>) {
+    complete(rt, host);
+    small(rt, host, MIDDLE);
+    complete(rt, host);
     for packet in [LAST, MIDDLE, b""] {
-        small(rt, host, packet)?;
+        small(rt, host, packet);
     }
-    complete(rt, host)?;
-    small(rt, host, FIRST)?;
-    complete(rt, host)
+    complete(rt, host);
+    small(rt, host, FIRST);
+    complete(rt, host);
 }
 
 // A second start with another hot spot 13; another byte for a filled place 13; another total 12; another id, not newer, 11; too large a
@@ -168,26 +160,26 @@ const NEWER: &[u8] =
     b"\x80\x00\x00\x28\x00\x00\x00\x00\x00\x00\x00\x00\x03\x00\x0e\x00\x00\x00\x02\x00\x0a\x00\x00\x00\x00\x5a";
 
 // The newer fragment opens its picture, a late one of id 9 doesn't open that again; with too few places lent, 17.
-fn another(rt: &HostRuntime, host: &mut Host<5>) -> io::Result<()> {
-    small(rt, host, NEWER)?;
-    small(rt, host, MIDDLE)?;
+fn another(rt: &HostRuntime, host: &mut Host<5>) {
+    small(rt, host, NEWER);
+    small(rt, host, MIDDLE);
     let mut narrow = Host {
         pointer: host.pointer,
         picture: host.picture,
         image: [46; 1],
         marks: [7; 1],
     };
-    store(rt, &mut narrow, MIDDLE, [0, 1, 2, 3, 4])?;
-    complete(rt, &narrow)
+    store(rt, &mut narrow, MIDDLE, [0, 1, 2, 3, 4]);
+    complete(rt, &narrow);
 }
 
-fn orders(rt: &HostRuntime) -> io::Result<()> {
+fn orders(rt: &HostRuntime) {
     let mut host = Host::<5>::new(46, 7);
-    in_order(rt, &mut host)?;
+    in_order(rt, &mut host);
     for packet in REFUSED {
-        small(rt, &mut host, packet)?;
+        small(rt, &mut host, packet);
     }
-    another(rt, &mut host)
+    another(rt, &mut host);
 }
 
 // Starts of total 0, complete at once: sequence number 65,535, then 0, which opens the next picture.
@@ -196,24 +188,23 @@ const WRAPS: [&[u8]; 2] = [
     b"\x80\x00\x00\x00\x00\x00\x00\x00\x00\x00\x00\x00\x02\x00\x12\x00\x00\x00\x00\x00\x02\x00\x05\x00\x06\x02\x00\x00\x00\x09",
 ];
 
-fn wraps(rt: &HostRuntime) -> io::Result<()> {
+fn wraps(rt: &HostRuntime) {
     let mut host = Host::<5>::new(46, 7);
     for packet in WRAPS {
-        small(rt, &mut host, packet)?;
-        complete(rt, &host)?;
+        small(rt, &mut host, packet);
+        complete(rt, &host);
     }
-    Ok(())
 }
 
-fn run(rt: &HostRuntime) -> io::Result<()> {
-    positions(rt)?;
-    offsets(rt)?;
-    shapes(rt)?;
-    orders(rt)?;
-    wraps(rt)
+fn run(rt: &HostRuntime) {
+    positions(rt);
+    offsets(rt);
+    shapes(rt);
+    orders(rt);
+    wraps(rt);
 }
 
-// Where its lines can't be written the program ends as ever, with status 0.
+// A line that can't be written is passed over, as a later write may succeed; the status is 0.
 fn main(rt: HostRuntime) {
-    run(&rt).ok();
+    run(&rt);
 }

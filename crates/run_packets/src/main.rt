@@ -9,15 +9,15 @@ use cursor_host::shown;
 use cursor_packet::position;
 use cursor_picture::Picture;
 use cursor_pointer::Pointer;
-use std::io;
+use print::hex::Hex;
 use wire::status::Refused;
 
-fn print_refused(rt: &HostRuntime, refused: Refused) -> io::Result<()> {
-    print!(rt; " refused {} {}", u8::from(refused.refusal), refused.place)
+fn print_refused(rt: &HostRuntime, refused: Refused) {
+    print!(rt; " refused {} {}", u8::from(refused.refusal), refused.place).ok();
 }
 
 // A fragment's fields; the last three are a start's own, 0 where it is none.
-fn print_fragment(rt: &HostRuntime, fragment: Fragment) -> io::Result<()> {
+fn print_fragment(rt: &HostRuntime, fragment: Fragment) {
     let Fragment {
         sequence,
         total,
@@ -28,50 +28,52 @@ fn print_fragment(rt: &HostRuntime, fragment: Fragment) -> io::Result<()> {
     print!(rt;
         " accepted {sequence} {total} {id} {offset} {}",
         start.is_some() as u8
-    )?;
+    )
+    .ok();
     let start = start.unwrap_or(Start::none());
-    print!(rt; " {} {} {}", start.image_type, start.hot_x, start.hot_y)
+    print!(rt; " {} {} {}", start.image_type, start.hot_x, start.hot_y).ok();
 }
 
-fn read_position(rt: &HostRuntime, packet: &[u8]) -> io::Result<()> {
-    print!(rt; "position")?;
+fn read_position(rt: &HostRuntime, packet: &[u8]) {
+    print!(rt; "position").ok();
     match position::read(packet) {
         Ok(position) => {
             print!(rt;
                 " accepted {} {} {}",
                 position.sequence, position.x, position.y
-            )?;
+            )
+            .ok();
         }
-        Err(refused) => print_refused(rt, refused)?,
+        Err(refused) => print_refused(rt, refused),
     }
-    println!(rt; "")
+    println!(rt; "").ok();
 }
 
-fn read_fragment(rt: &HostRuntime, packet: &[u8]) -> io::Result<()> {
-    print!(rt; "fragment")?;
+fn read_fragment(rt: &HostRuntime, packet: &[u8]) {
+    print!(rt; "fragment").ok();
     match cursor_fragment::read(packet) {
-        Ok(fragment) => print_fragment(rt, fragment)?,
-        Err(refused) => print_refused(rt, refused)?,
+        Ok(fragment) => print_fragment(rt, fragment),
+        Err(refused) => print_refused(rt, refused),
     }
-    println!(rt; "")
+    println!(rt; "").ok();
 }
 
-fn call_position(rt: &HostRuntime, packet: &[u8]) -> io::Result<()> {
-    print!(rt; "pointer")?;
+fn call_position(rt: &HostRuntime, packet: &[u8]) {
+    print!(rt; "pointer").ok();
     match cursor_pointer::position(Pointer::fresh(), packet) {
         Ok(pointer) => {
-            print!(rt; " accepted{}", shown::Pointer(pointer))?;
+            print!(rt; " accepted{}", shown::Pointer(pointer)).ok();
         }
-        Err(refused) => print_refused(rt, refused)?,
+        Err(refused) => print_refused(rt, refused),
     }
-    println!(rt; "")
+    println!(rt; "").ok();
 }
 
 // The line of a store ends with the picture's bytes and the marks, which a refusal leaves 2e and 07.
-fn call_store(rt: &HostRuntime, packet: &[u8]) -> io::Result<()> {
+fn call_store(rt: &HostRuntime, packet: &[u8]) {
     let mut image = [46; 8];
     let mut marks = [7; 8];
-    print!(rt; "store")?;
+    print!(rt; "store").ok();
     match cursor_store::store(
         Pointer::fresh(),
         Picture::fresh(),
@@ -82,21 +84,19 @@ fn call_store(rt: &HostRuntime, packet: &[u8]) -> io::Result<()> {
         Ok(stored) => {
             let pointer = shown::Pointer(stored.pointer);
             let picture = shown::Picture(stored.picture);
-            print!(rt; " accepted{pointer} picture{picture}")?;
+            print!(rt; " accepted{pointer} picture{picture}").ok();
         }
-        Err(refused) => print_refused(rt, refused)?,
+        Err(refused) => print_refused(rt, refused),
     }
-    let image = hex::encode(rt.alloc(), image)?;
-    let marks = hex::encode(rt.alloc(), marks)?;
-    println!(rt; " bytes {image} marks {marks}")
+    println!(rt; " bytes {} marks {}", Hex(&image), Hex(&marks)).ok();
 }
 
-fn show(rt: &HostRuntime, packet: &[u8]) -> io::Result<()> {
-    println!(rt; "{}:", hex::encode(rt.alloc(), packet)?)?;
-    read_position(rt, packet)?;
-    read_fragment(rt, packet)?;
-    call_position(rt, packet)?;
-    call_store(rt, packet)
+fn show(rt: &HostRuntime, packet: &[u8]) {
+    println!(rt; "{}:", Hex(packet)).ok();
+    read_position(rt, packet);
+    read_fragment(rt, packet);
+    call_position(rt, packet);
+    call_store(rt, packet);
 }
 
 const PACKETS: [&[u8]; 10] = [
@@ -116,14 +116,13 @@ const PACKETS: [&[u8]; 10] = [
     b"\x80\x00\x00\x05\x00\x00\x00\x00\x00\x00\x00\x00\x01\x00\x08\xff\xfe\x00\x0a\x00",
 ];
 
-fn run(rt: &HostRuntime) -> io::Result<()> {
+fn run(rt: &HostRuntime) {
     for packet in PACKETS {
-        show(rt, packet)?;
+        show(rt, packet);
     }
-    Ok(())
 }
 
-// Where its lines can't be written the program ends as ever, with status 0.
+// A line that can't be written is passed over, as a later write may succeed; the status is 0.
 fn main(rt: HostRuntime) {
-    run(&rt).ok();
+    run(&rt);
 }

@@ -7,7 +7,6 @@
 use message_rules::accessors::SourceId;
 use session_step::in_place;
 use session_table::record::{Session, State};
-use std::io;
 
 fn source(present: bool, byte: u8) -> SourceId {
     SourceId {
@@ -60,7 +59,7 @@ impl Case {
     }
 }
 
-fn line(rt: &HostRuntime, case: Case) -> io::Result<()> {
+fn line(rt: &HostRuntime, case: Case) {
     let Case {
         state,
         event,
@@ -72,20 +71,21 @@ fn line(rt: &HostRuntime, case: Case) -> io::Result<()> {
     print!(rt;
         "{state:?} {event} {} {} {options} {brought}:",
         kept as u8, carried as u8
-    )?;
+    )
+    .ok();
     let after = in_place::lend_and_step(case.session(), event, carried.source(), brought);
     let (status, check) = match after.answer {
         Ok(accepted) => (0, accepted.check),
         Err(refused) => (u8::from(refused.refusal), false),
     };
-    print!(rt; " {status} {}", check as u8)?;
+    print!(rt; " {status} {}", check as u8).ok();
     let session = after.session;
     let first = first_byte(session.source);
-    println!(rt; " {:?} {} {first}", session.state, session.options)
+    println!(rt; " {:?} {} {first}", session.state, session.options).ok();
 }
 
 // The lines of a state and an event.
-fn event_lines(rt: &HostRuntime, state: State, event: u8) -> io::Result<()> {
+fn event_lines(rt: &HostRuntime, state: State, event: u8) {
     for kept in [false, true] {
         for carried in [Carried::None, Carried::Kept, Carried::Another] {
             for options in [0, 2] {
@@ -100,16 +100,15 @@ fn event_lines(rt: &HostRuntime, state: State, event: u8) -> io::Result<()> {
                             options,
                             brought,
                         },
-                    )?;
+                    );
                 }
             }
         }
     }
-    Ok(())
 }
 
 // From a fresh session's state, Waiting, on.
-fn run(rt: &HostRuntime) -> io::Result<()> {
+fn run(rt: &HostRuntime) {
     for state in [
         Session::fresh().state,
         State::Handshake,
@@ -119,13 +118,12 @@ fn run(rt: &HostRuntime) -> io::Result<()> {
         State::Closed,
     ] {
         for event in 0..=11 {
-            event_lines(rt, state, event)?;
+            event_lines(rt, state, event);
         }
     }
-    Ok(())
 }
 
-// Where its lines can't be written the program ends as ever, with status 0.
+// A line that can't be written is passed over, as a later write may succeed; the status is 0.
 fn main(rt: HostRuntime) {
-    run(&rt).ok();
+    run(&rt);
 }

@@ -2,33 +2,32 @@
 // how many of all sequence numbers are newer than some, and the number of each status.
 #![tactic(auto)]
 
-use std::io;
 use wire::status::Refusal;
 use wire::unsigned::Unsigned;
 use wire::{number, sequence, signed, status};
 
 // The numbers at one place: the place, then one, two and four bytes unsigned, two bytes signed.
-fn read_line(rt: &HostRuntime, at: usize) -> io::Result<()> {
+fn read_line(rt: &HostRuntime, at: usize) {
     let bytes = b"\x80\x00\xff\xfe\x7f\x01\x1c";
     let one = number::read::<u8>(bytes, at);
     let two = number::read::<u16>(bytes, at);
     let four = number::read::<u32>(bytes, at);
-    println!(rt; "read {at} {one} {two} {four} {}", signed::signed16(two))
+    println!(rt; "read {at} {one} {two} {four} {}", signed::signed16(two)).ok();
 }
 
 // What a number written at one place leaves in four bytes of 9: the number of bytes written, the place, whether they fit, and the four.
-fn write_line<N: Unsigned>(rt: &HostRuntime, at: usize, v: N) -> io::Result<()> {
+fn write_line<N: Unsigned>(rt: &HostRuntime, at: usize, v: N) {
     let mut out = [9; 4];
     let fits = number::write(&mut out, at, v);
     let [a, b, c, d] = out;
-    println!(rt; "write {} {at} {} {a} {b} {c} {d}", N::WIDTH, fits as u8)
+    println!(rt; "write {} {at} {} {a} {b} {c} {d}", N::WIDTH, fits as u8).ok();
 }
 
 // FE, 1C44 and FFFFFFF6 (−10), each written at the place.
-fn write_lines(rt: &HostRuntime, at: usize) -> io::Result<()> {
-    write_line(rt, at, 0xfe_u8)?;
-    write_line(rt, at, 0x1c44_u16)?;
-    write_line(rt, at, 0xfffffff6_u32)
+fn write_lines(rt: &HostRuntime, at: usize) {
+    write_line(rt, at, 0xfe_u8);
+    write_line(rt, at, 0x1c44_u16);
+    write_line(rt, at, 0xfffffff6_u32);
 }
 
 // How many of all sequence numbers are newer than `last`. A sum over a range with no end of its own compiles to vector instructions; a filter of
@@ -40,18 +39,18 @@ fn count_newer(known: bool, last: u16) -> u32 {
 }
 
 // Whether `last` is known, `last`, how many numbers are newer, and whether those 0, 1, 32,767, 32,768 and 65,535 ahead are.
-fn newer_line(rt: &HostRuntime, known: bool, last: u16) -> io::Result<()> {
+fn newer_line(rt: &HostRuntime, known: bool, last: u16) {
     let count = count_newer(known, last);
-    print!(rt; "newer {} {last} {count}", known as u8)?;
+    print!(rt; "newer {} {last} {count}", known as u8).ok();
     for ahead in [0u16, 1, 32767, 32768, 65535] {
         let is_newer = sequence::newer(known, last, last.wrapping_add(ahead));
-        print!(rt; " {}", is_newer as u8)?;
+        print!(rt; " {}", is_newer as u8).ok();
     }
-    println!(rt; "")
+    println!(rt; "").ok();
 }
 
-fn status_line(rt: &HostRuntime) -> io::Result<()> {
-    print!(rt; "status {}", status::number(Ok(())))?;
+fn status_line(rt: &HostRuntime) {
+    print!(rt; "status {}", status::number(Ok(()))).ok();
     for refusal in [
         Refusal::Truncated,
         Refusal::WrongSize,
@@ -72,28 +71,28 @@ fn status_line(rt: &HostRuntime) -> io::Result<()> {
         Refusal::ImageNotHeld,
         Refusal::NotWritable,
     ] {
-        print!(rt; " {}", status::number(Err(refusal)))?;
+        print!(rt; " {}", status::number(Err(refusal))).ok();
     }
-    println!(rt; "")
+    println!(rt; "").ok();
 }
 
-fn run(rt: &HostRuntime) -> io::Result<()> {
+fn run(rt: &HostRuntime) {
     for at in 0..=7 {
-        read_line(rt, at)?;
+        read_line(rt, at);
     }
-    read_line(rt, usize::MAX)?;
+    read_line(rt, usize::MAX);
     for at in 0..=4 {
-        write_lines(rt, at)?;
+        write_lines(rt, at);
     }
-    write_lines(rt, usize::MAX)?;
-    newer_line(rt, false, 0)?;
+    write_lines(rt, usize::MAX);
+    newer_line(rt, false, 0);
     for last in [0u16, 1, 32767, 32768, 65535] {
-        newer_line(rt, true, last)?;
+        newer_line(rt, true, last);
     }
-    status_line(rt)
+    status_line(rt);
 }
 
-// Where its lines can't be written the program ends as ever, with status 0.
+// A line that can't be written is passed over, as a later write may succeed; the status is 0.
 fn main(rt: HostRuntime) {
-    run(&rt).ok();
+    run(&rt);
 }

@@ -13,20 +13,15 @@ mod messages;
 mod packets;
 
 use host_answers::Answer;
-use std::io;
 
 // What a reader refuses.
-fn refused(rt: &HostRuntime, answer: Answer) -> io::Result<()> {
-    println!(rt; " refused {} place {}", answer.status, answer.place)
+fn refused(rt: &HostRuntime, answer: Answer) {
+    println!(rt; " refused {} place {}", answer.status, answer.place).ok();
 }
 
-fn run(rt: &HostRuntime) -> io::Result<()> {
-    messages::run(rt)?;
-    limits_line::run(rt)?;
-    packets::run(rt)
-}
-
-// Where its lines can't be written the program ends as ever, with status 0.
+// A line that can't be written is passed over, as a later write may succeed; the status is 0.
 fn main(rt: HostRuntime) {
-    run(&rt).ok();
+    messages::run(&rt);
+    limits_line::run(&rt);
+    packets::run(&rt);
 }

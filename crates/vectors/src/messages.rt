@@ -1,14 +1,14 @@
 // The messages of section 4 of 000 and 001, and P1 to P6 of 01.
 use crate::refused;
-use std::io;
+use print::hex::Hex;
 
 // The Source ID in hexadecimal digits, or `-`.
-fn source(rt: &HostRuntime, bytes: &[u8], record: &[u8]) -> io::Result<()> {
+fn source(rt: &HostRuntime, bytes: &[u8], record: &[u8]) {
     let mut id = [0; 16];
     if message_calls::source_id(bytes, record, &mut id).yes {
-        print!(rt; " source {}", hex::encode(rt.alloc(), id)?)
+        print!(rt; " source {}", Hex(&id)).ok();
     } else {
-        print!(rt; " source -")
+        print!(rt; " source -").ok();
     }
 }
 
@@ -19,29 +19,29 @@ fn writes_back(bytes: &[u8], record: &[u8]) -> bool {
     out.get(..written.size) == Some(bytes)
 }
 
-fn accepted(rt: &HostRuntime, bytes: &[u8], record: &[u8]) -> io::Result<()> {
+fn accepted(rt: &HostRuntime, bytes: &[u8], record: &[u8]) {
     let command = message_layout::read(record).command;
     let port = message_calls::rtsp_port(bytes, record).value;
     let options = message_calls::security_options(bytes, record).value;
-    print!(rt; " accepted {command} port {port} options {options}")?;
-    source(rt, bytes, record)?;
+    print!(rt; " accepted {command} port {port} options {options}").ok();
+    source(rt, bytes, record);
     let word = if writes_back(bytes, record) {
         "same"
     } else {
         "other"
     };
-    println!(rt; " written {word}")
+    println!(rt; " written {word}").ok();
 }
 
 // A message under its name, in one line.
-fn show(rt: &HostRuntime, name: &str, bytes: &[u8]) -> io::Result<()> {
-    print!(rt; "{name}")?;
+fn show(rt: &HostRuntime, name: &str, bytes: &[u8]) {
+    print!(rt; "{name}").ok();
     let mut record = [0; message_layout::LENGTH];
     let answer = message_calls::read(bytes, &mut record);
     if answer.status == 0 {
-        accepted(rt, bytes, &record)
+        accepted(rt, bytes, &record);
     } else {
-        refused(rt, answer)
+        refused(rt, answer);
     }
 }
 
@@ -99,7 +99,7 @@ const P6: &[u8] = b"\x00\x1c\x01\x01\
       \x03\x00\x10\x07\x07\x07\x07\x07\x07\x07\x07\x07\x07\x07\x07\x07\x07\x07\x07";
 
 // Each message in its line.
-pub fn run(rt: &HostRuntime) -> io::Result<()> {
+pub fn run(rt: &HostRuntime) {
     let mut resized = *SESSION_REQUEST;
     resized[1] = 0x3c;
     // P2 is P1 with Size 0022, and P3 is P1 with a byte more.
@@ -125,7 +125,6 @@ pub fn run(rt: &HostRuntime) -> io::Result<()> {
         ("P6", P6),
     ];
     for (name, bytes) in messages {
-        show(rt, name, bytes)?;
+        show(rt, name, bytes);
     }
-    Ok(())
 }
