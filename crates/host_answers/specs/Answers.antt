@@ -29,13 +29,17 @@ short = refused refusal.NoRoom 0
 abbrev pub answer_of : {A : Type 0} → Result A Refused → Answer
 answer_of a = answer_as (numbered a)
 
--- of a writer: the paper's number of its answer, and how many bytes it wrote, none where it refused
+-- of a writer that refuses
 abbrev pub not_written : Refusal → Written
 not_written r = record { status = refusal_number r; size = 0 }
 
+-- of a writer: the paper's number of its answer, and how many bytes it wrote, none where it refused
+abbrev pub size_of : Result ℕ Refused → ℕ
+size_of (Ok n) = n
+size_of (Err r) = 0
+
 abbrev pub written_of : Result ℕ Refused → Written
-written_of (Ok n) = record { status = 0; size = n }
-written_of (Err r) = not_written (r.refusal)
+written_of a = record { status = (numbered a).number; size = size_of a }
 
 -- of a number that is asked for: 0 where there is none
 abbrev pub no_number : Refusal → Number
@@ -50,10 +54,14 @@ abbrev pub step_as : Result Bool Refused → Step
 step_as (Ok b) = record { status = 0; check = b; place = 0 }
 step_as (Err r) = record { status = refusal_number (r.refusal); check = false; place = r.place }
 
--- of a question: no where it is refused
+-- of a question that is refused: no
 abbrev pub not_answered : Refusal → Yes
 not_answered r = record { status = refusal_number r; yes = false }
 
+-- of a question: the paper's number of its answer, and yes or no, no where it is refused
+abbrev pub is_yes : Result Bool Refused → Bool
+is_yes (Ok b) = b
+is_yes (Err r) = false
+
 abbrev pub yes_of : Result Bool Refused → Yes
-yes_of (Ok b) = record { status = 0; yes = b }
-yes_of (Err r) = not_answered (r.refusal)
+yes_of a = record { status = (numbered a).number; yes = is_yes a }

@@ -121,8 +121,8 @@ fn follow(next: Next, session: Session, brought: Brought) -> Stepped
 }
 
 // The step. A number that is no event is refused with 4 in any state, a message of another source with 15, and what the table doesn't have with
-// 14. (Only a message is ever of another source, so that the first two never meet.) Put into both of its callers: a refusal that a function hands
-// out beside a session goes through memory with its padding (docs/MEASURED.md).
+// 14. (Only a message is ever of another source, so that the first two never meet.) Put into its callers: a refusal that a function hands out
+// beside a session goes through memory with its padding (docs/MEASURED.md).
 #[inline(always)]
 #[tactic(auto, using(crate::proofs::Laws::Step::step_other), unfolding(crate::specs::Step::step_of, session_table::specs::Table::expected_of))]
 pub fn step(session: Session, event: u8, source: SourceId, options: u8) -> Stepped
