@@ -30,7 +30,7 @@ fn write_lines(rt: &HostRuntime, at: usize) {
     write_line(rt, at, 0xfffffff6_u32);
 }
 
-// How many of all sequence numbers are newer than `last`. A sum over a range with no end of its own compiles to vector instructions; a filter of
+// How many of all sequence numbers are newer than `last`. A sum over `0..65536` compiles to vector instructions; to count what a filter leaves of
 // `0..=u16::MAX` takes five times as many.
 fn count_newer(known: bool, last: u16) -> u32 {
     (0..65536_u32).fold(0, |count: u32, new| {
